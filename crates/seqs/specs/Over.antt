@@ -1,0 +1,35 @@
+-- A list written over the front of a buffer, element by element.
+-- A loop that fills a buffer keeps `buffer ≡ over i written buffer₀`: a turn is `over-next`, the end `over-all`.
+use mathlib.Core.Path.{_≡_, refl, ap}
+use mathlib.Core.List.{List, [], _∷_, _++_}
+use Prim.Native.Nat.{ℕ, zero, suc, _+_, _<_, _≤_}
+use native.Mathlib.Nat.{not-suc-le-zero, le-of-suc-le-suc}
+use native.Mathlib.Numerals.{add-one}
+use native.Mathlib.Omega.{arith}
+use lib.ListN.{length, getD, take, drop, set, length-append, length-take, length-drop}
+use lib.Seq.{take-all}
+
+module _ {ℓ} {A : Type ℓ} where
+  -- the first n elements of l stand over those of the buffer d, and the rest of d is left
+  abbrev pub over : ℕ → List A → List A → List A
+  over n l d = take n l ++ drop n d
+
+  over-suc : (n : ℕ) (l d : List A) (z : A) → n < length l → n < length d
+      → set (over n l d) n (getD l n z) ≡ over (suc n) l d
+  over-suc n l [] z h k = absurd (not-suc-le-zero k)
+  over-suc n [] (y ∷ d) z h k = absurd (not-suc-le-zero h)
+  over-suc zero (x ∷ l) (y ∷ d) z h k = refl
+  over-suc (suc n) (x ∷ l) (y ∷ d) z h k =
+      ap (λ (t : List A). x ∷ t) (over-suc n l d z (le-of-suc-le-suc h) (le-of-suc-le-suc k))
+
+  -- one turn: the buffer is e, and the value v goes to place n
+  pub over-next : (n : ℕ) (l d e : List A) (v z : A) → e ≡ over n l d → v ≡ getD l n z → n < length l → n < length d
+      → set e n v ≡ over (n + 1) l d
+  over-next n l d e v z he hv h k = rw (he, hv, add-one) (over-suc n l d z h k)
+
+  -- after the last turn
+  pub over-all : (n : ℕ) (l d : List A) → length l ≡ n → over n l d ≡ l ++ drop n d
+  over-all n l d h = rw (take-all n l (omega arith))
+
+  pub over-length : (n : ℕ) (l d : List A) → n ≤ length l → n ≤ length d → length (over n l d) ≡ length d
+  over-length n l d h k = simp (length-append, length-take, length-drop) (omega arith)

@@ -1,0 +1,4 @@
+pub mod Padding
+pub mod Scheduling
+pub mod InRow
+pub mod Digests

@@ -1,0 +1,28 @@
+-- The schedule is filled, the turns run over it, and the sum is taken.
+use mathlib.Core.Path.{ap, _∙_}
+use mathlib.Core.List.{List}
+use denote.Ref.{now}
+use Rattle.sha256.specs.Hash.{added}
+use Rattle.sha256.specs.Work.{turnsFrom, blockWith}
+use borrow.Author.Needs.{needs}
+use Rattle.sha256.proofs.block.Statement.{statement}
+use Rattle.sha256.proofs.block.Tie as tie
+
+fill-requires : tie.Need-fill-requires
+fill-requires c κs = search needs
+
+turns-requires : tie.Need-turns-requires
+turns-requires c κs = search needs
+
+sum-requires : tie.Need-sum-requires
+sum-requires c κs = search needs
+
+returns : tie.Need-returns
+unfolding blockWith
+returns c =
+    let a = c .before .before .before .before .before .before .args in
+    c .sum .ensures
+    ∙ ap (added (a .s)) (c .before .turns .ensures ∙ ap (λ (l : List _). turnsFrom 64 0 (now (a .ks)) l (a .s)) (c .before .before .before .fill .ensures))
+
+pub block-spec : {M : Type 1} → statement M
+block-spec = tie.close (tie.spec fill-requires turns-requires sum-requires returns)

@@ -1,0 +1,60 @@
+-- Eight words put one behind the other: on a list that is written out, the stores compute.
+use mathlib.Core.Path.{ap, _∙_}
+use mathlib.Core.List.{List}
+use Prim.Native.Nat.{ℕ}
+use lib.Seq.{sets}
+use Rattle.sha256.specs.Hash.{be32}
+use borrow.Author.Needs.{needs}
+use Rattle.sha256.proofs.bytes_of.Statement.{statement}
+use Rattle.sha256.proofs.bytes_of.Tie as tie
+
+put-requires : tie.Need-put-requires
+put-requires c κs = search needs
+
+put-requires-2 : tie.Need-put-requires-2
+put-requires-2 c κs = search needs
+
+put-requires-3 : tie.Need-put-requires-3
+put-requires-3 c κs = search needs
+
+put-requires-4 : tie.Need-put-requires-4
+put-requires-4 c κs = search needs
+
+put-requires-5 : tie.Need-put-requires-5
+put-requires-5 c κs = search needs
+
+put-requires-6 : tie.Need-put-requires-6
+put-requires-6 c κs = search needs
+
+put-requires-7 : tie.Need-put-requires-7
+put-requires-7 c κs = search needs
+
+put-requires-8 : tie.Need-put-requires-8
+put-requires-8 c κs = search needs
+
+returns : tie.Need-returns
+returns c =
+    let s = c .before .before .before .before .before .before .before .before .before .before .before .before .before .before .before .before .args .s in
+    let e1 = c .before .before .before .before .before .before .before .before .before .before .before .before .before .before .put .ensures in
+    let e2 = c .before .before .before .before .before .before .before .before .before .before .before .before .put2 .ensures ∙ ap (λ (l : List ℕ). sets l 4 (be32 (s .b))) e1 in
+    let e3 = c .before .before .before .before .before .before .before .before .before .before .put3 .ensures ∙ ap (λ (l : List ℕ). sets l 8 (be32 (s .c))) e2 in
+    let e4 = c .before .before .before .before .before .before .before .before .put4 .ensures ∙ ap (λ (l : List ℕ). sets l 12 (be32 (s .d))) e3 in
+    let e5 = c .before .before .before .before .before .before .put5 .ensures ∙ ap (λ (l : List ℕ). sets l 16 (be32 (s .e))) e4 in
+    let e6 = c .before .before .before .before .put6 .ensures ∙ ap (λ (l : List ℕ). sets l 20 (be32 (s .f))) e5 in
+    let e7 = c .before .before .put7 .ensures ∙ ap (λ (l : List ℕ). sets l 24 (be32 (s .g))) e6 in
+    let e8 = c .put8 .ensures ∙ ap (λ (l : List ℕ). sets l 28 (be32 (s .h))) e7 in
+    e8
+
+pub bytes-of-spec : {M : Type 1} → statement M
+bytes-of-spec =
+    tie.close
+    (tie.spec
+    put-requires
+    put-requires-2
+    put-requires-3
+    put-requires-4
+    put-requires-5
+    put-requires-6
+    put-requires-7
+    put-requires-8
+    returns)

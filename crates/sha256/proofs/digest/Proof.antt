@@ -1,0 +1,88 @@
+-- After i blocks the hash value is that of the definition, whose number of blocks is the padded length over 64.
+use mathlib.Core.Path.{_≡_, refl, sym, ap, _∙_}
+use Prim.Native.Nat.{ℕ, _+_, _-_, _/_, _≤_}
+use native.Mathlib.Numerals.{add-one}
+use native.Mathlib.Omega.{arith}
+use mathlib.Core.List.{List}
+use lib.ListN.{length}
+use denote.Ref.{now}
+use Rattle.sha256.specs.Constants.{K}
+use Rattle.sha256.specs.Padding.{pad, blocks}
+use Rattle.sha256.specs.Hash.{added, schedule, hash, bytesOf, sha256}
+use Rattle.sha256.specs.Work.{blockWith}
+use Rattle.sha256.proofs.Padding.{pad-length}
+use Rattle.sha256.proofs.InRow.{all-rounds}
+use borrow.Author.Needs.{needs}
+use Rattle.sha256.proofs.digest.Statement.{statement}
+use Rattle.sha256.proofs.digest.Tie as tie
+
+-- a block taken in with the constants K is the definition's next hash value
+block-taken : (p : List ℕ) (i : ℕ) → blockWith K p i (hash p i) ≡ hash p (i + 1)
+unfolding blockWith hash
+block-taken p i = ap (added (hash p i)) (all-rounds 64 (schedule p i 64) (hash p i)) ∙ ap (hash p) (sym (add-one i))
+
+abbrev Inv-loop : tie.InvT-loop
+Inv-loop message n ks s₀ i₀ s i = (i ≤ n) × (n ≡ blocks (length message)) × (ks ≡ K) × (s ≡ hash (pad message) i)
+
+abbrev μ-loop : tie.MeasureT-loop
+μ-loop message n ks s₀ i₀ s i = n - i
+
+blocks-requires : tie.Need-blocks-requires Inv-loop μ-loop
+blocks-requires c κs = search needs
+
+constants-requires : tie.Need-constants-requires Inv-loop μ-loop
+constants-requires c κs = search needs
+
+initial-requires : tie.Need-initial-requires Inv-loop μ-loop
+initial-requires c κs = search needs
+
+loop-holds : tie.Need-loop-holds Inv-loop μ-loop
+unfolding hash
+loop-holds c = (search needs, c .before .before .blocks2 .ensures, c .before .constants .ensures, c .initial .ensures)
+
+block-requires : tie.Need-block-requires Inv-loop μ-loop
+block-requires c κs = search needs
+
+add-i : tie.Need-add-i Inv-loop μ-loop
+add-i c = search needs
+
+loop-less : tie.Need-loop-less Inv-loop μ-loop
+loop-less c = search needs
+
+loop-again : tie.Need-loop-again Inv-loop μ-loop
+loop-again c =
+    let k = c .before .before .before .loop in
+    let p = pad (now (c .before .before .before .before .before .before .before .before .args .message)) in (
+      search needs,
+      k .inv .1,
+      k .inv .2,
+      c .block .ensures ∙ (λ j. blockWith (k .inv .2 j) p (k .i) (k .inv .3 j)) ∙ block-taken p (k .i),
+    )
+
+bytes-of-requires : tie.Need-bytes-of-requires Inv-loop μ-loop
+bytes-of-requires c κs = search needs
+
+returns : tie.Need-returns Inv-loop μ-loop
+unfolding sha256
+returns c =
+    let k = c .before .before .loop in
+    let m = now (c .before .before .before .before .before .before .before .args .message) in
+    let done : k .i ≡ length (pad m) / 64 = omega (arith, pad-length m) in
+    c .bytes-of .ensures ∙ ap bytesOf (k .inv .3 ∙ ap (hash (pad m)) done)
+
+pub digest-spec : {M : Type 1} → statement M
+digest-spec =
+    tie.close
+    (tie.spec
+    Inv-loop
+    μ-loop
+    blocks-requires
+    constants-requires
+    initial-requires
+    loop-holds
+    block-requires
+    add-i
+    loop-less
+    loop-again
+    bytes-of-requires
+    returns)

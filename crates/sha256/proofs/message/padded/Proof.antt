@@ -1,0 +1,76 @@
+-- By where the byte lies: in the message, at the mark, among the zeros or in the length.
+use mathlib.Core.Path.{_≡_, sym, ap, _∙_}
+use Prim.Native.Nat.{ℕ, _*_, _-_, _%_, _^_}
+use native.Mathlib.Omega.{arith}
+use lib.ListN.{length, getD}
+use denote.Ref.{now}
+use Rattle.sha256.specs.Padding.{byteOf, pad, blocks}
+use Rattle.sha256.proofs.Padding.{low64, in-message, at-mark, in-zeros, in-length}
+use borrow.Author.Needs.{needs}
+use Rattle.sha256.proofs.message.padded.Statement.{statement}
+use Rattle.sha256.proofs.message.padded.Tie as tie
+
+shared-slice-read-result : tie.Need-shared-slice-read-result
+shared-slice-read-result c = search needs
+
+returns : tie.Need-returns
+returns c = let a = c .before .before .before .args in sym (in-message (now (a .message)) (a .i) (c .before .if1 .taken))
+
+returns-2 : tie.Need-returns-2
+returns-2 c =
+    let a = c .before .before .before .args in
+    let m = now (a .message) in
+    sym (ap (λ (k : ℕ). getD (pad m) k 0) (c .if2 .taken) ∙ at-mark m)
+
+blocks-requires : tie.Need-blocks-requires
+blocks-requires c κs = search needs
+
+mul-end : tie.Need-mul-end
+mul-end c = search needs
+
+add-if3 : tie.Need-add-if3
+add-if3 c = search needs
+
+returns-3 : tie.Need-returns-3
+returns-3 c = let a = c .before .before .before .before .before .args in sym (in-zeros (now (a .message)) (a .i) (omega arith) (omega arith))
+
+sub-byte : tie.Need-sub-byte
+sub-byte c = search needs
+
+sub-byte-2 : tie.Need-sub-byte-2
+sub-byte-2 c = search needs
+
+mul-byte : tie.Need-mul-byte
+mul-byte c = search needs
+
+byte-requires : tie.Need-byte-requires
+byte-requires c κs = search needs
+
+returns-4 : tie.Need-returns-4
+returns-4 c =
+    let p = c .before .before in
+    let a = c .before .before .before .before .before .before .args in
+    let m = now (a .message) in
+    let end : ℕ = p .blocks2 .result * 64 in
+    let bits : length m * 2 ^ 3 ≡ 8 * length m = omega arith in
+    let place : (end - 1 - a .i) * 8 ≡ (blocks (length m) * 64 - 1 - a .i) * 8 = omega arith in
+    c .byte .ensures ∙ low64 (length m * 2 ^ 3) ((end - 1 - a .i) * 8) (omega arith)
+    ∙ (λ j. byteOf (bits j) (place j))
+    ∙ sym (in-length m (a .i) (omega arith) (omega arith) (omega arith))
+
+pub padded-spec : {M : Type 1} → statement M
+padded-spec =
+    tie.close
+    (tie.spec
+    shared-slice-read-result
+    returns
+    returns-2
+    blocks-requires
+    mul-end
+    add-if3
+    returns-3
+    sub-byte
+    sub-byte-2
+    mul-byte
+    byte-requires
+    returns-4)

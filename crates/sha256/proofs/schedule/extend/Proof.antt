@@ -1,0 +1,119 @@
+-- The first t words are the schedule's, and each turn adds one.
+use mathlib.Core.Path.{_≡_, sym, ap, _∙_}
+use Prim.Native.Nat.{ℕ, _-_, _≤_}
+use native.Mathlib.Omega.{arith}
+use lib.ListN.{length, take, length-set}
+use lib.Seq.{take-all}
+use denote.Ref.{now}
+use Rattle.sha256.specs.Padding.{pad}
+use Rattle.sha256.specs.Hash.{schedule}
+use Rattle.sha256.proofs.Scheduling.{extended}
+use borrow.Author.Needs.{needs}
+use Rattle.sha256.proofs.schedule.extend.Statement.{statement}
+use Rattle.sha256.proofs.schedule.extend.Tie as tie
+
+abbrev Inv-loop : tie.InvT-loop
+Inv-loop message i ws₀ t₀ ws t = (16 ≤ t) × (t ≤ 64) × (length ws ≡ 64) × (take t ws ≡ schedule (pad message) i t)
+
+abbrev μ-loop : tie.MeasureT-loop
+μ-loop message i ws₀ t₀ ws t = 64 - t
+
+loop-holds : tie.Need-loop-holds Inv-loop μ-loop
+loop-holds c = (search needs, search needs, c .before .pre .0, c .before .pre .1)
+
+sub-next : tie.Need-sub-next Inv-loop μ-loop
+sub-next c = search needs
+
+mul-next : tie.Need-mul-next Inv-loop μ-loop
+mul-next c = search needs
+
+element-copy-out-next : tie.Need-element-copy-out-next Inv-loop μ-loop
+element-copy-out-next c = search needs
+
+sub-next-2 : tie.Need-sub-next-2 Inv-loop μ-loop
+sub-next-2 c = search needs
+
+mul-next-2 : tie.Need-mul-next-2 Inv-loop μ-loop
+mul-next-2 c = search needs
+
+element-copy-out-next-2 : tie.Need-element-copy-out-next-2 Inv-loop μ-loop
+element-copy-out-next-2 c = search needs
+
+sub-next-3 : tie.Need-sub-next-3 Inv-loop μ-loop
+sub-next-3 c = search needs
+
+mul-next-3 : tie.Need-mul-next-3 Inv-loop μ-loop
+mul-next-3 c = search needs
+
+element-copy-out-next-3 : tie.Need-element-copy-out-next-3 Inv-loop μ-loop
+element-copy-out-next-3 c = search needs
+
+sub-next-4 : tie.Need-sub-next-4 Inv-loop μ-loop
+sub-next-4 c = search needs
+
+mul-next-4 : tie.Need-mul-next-4 Inv-loop μ-loop
+mul-next-4 c = search needs
+
+element-copy-out-next-4 : tie.Need-element-copy-out-next-4 Inv-loop μ-loop
+element-copy-out-next-4 c = search needs
+
+next-requires : tie.Need-next-requires Inv-loop μ-loop
+next-requires c κs = search needs
+
+mul-ws : tie.Need-mul-ws Inv-loop μ-loop
+mul-ws c = search needs
+
+element-write-ws : tie.Need-element-write-ws Inv-loop μ-loop
+element-write-ws c = search needs
+
+add-t : tie.Need-add-t Inv-loop μ-loop
+add-t c = search needs
+
+loop-less : tie.Need-loop-less Inv-loop μ-loop
+loop-less c = search needs
+
+loop-again : tie.Need-loop-again Inv-loop μ-loop
+loop-again c =
+    let p = c .before .before .before .before .before .before in
+    let a = c .before .before .before .before .before .before .before .before .args in
+    let k = p .loop in (
+      search needs,
+      search needs,
+      simp length-set (omega arith),
+      extended (pad (now (a .message))) (a .i) (k .ws) (k .t) (omega arith) (k .inv .3) (c .next .result) (omega arith) (c .next .ensures),
+    )
+
+returns : tie.Need-returns Inv-loop μ-loop
+returns c =
+    let k = c .before .loop in
+    let a = c .before .before .before .args in
+    let done : k .t ≡ 64 = omega arith in
+    sym (take-all 64 (k .ws) (omega arith)) ∙ ap (λ (n : ℕ). take n (k .ws)) (sym done) ∙ k .inv .3
+    ∙ ap (schedule (pad (now (a .message))) (a .i)) done
+
+pub extend-spec : {M : Type 1} → statement M
+extend-spec =
+    tie.close
+    (tie.spec
+    Inv-loop
+    μ-loop
+    loop-holds
+    sub-next
+    mul-next
+    element-copy-out-next
+    sub-next-2
+    mul-next-2
+    element-copy-out-next-2
+    sub-next-3
+    mul-next-3
+    element-copy-out-next-3
+    sub-next-4
+    mul-next-4
+    element-copy-out-next-4
+    next-requires
+    mul-ws
+    element-write-ws
+    add-t
+    loop-less
+    loop-again
+    returns)

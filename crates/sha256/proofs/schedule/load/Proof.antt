@@ -1,0 +1,81 @@
+-- The first t words are the schedule's, and each turn adds one.
+use mathlib.Core.Path.{_≡_, refl, sym, ap, _∙_}
+use Prim.Native.Nat.{ℕ, _-_, _≤_}
+use native.Mathlib.Omega.{arith}
+use lib.ListN.{length, take, length-set}
+use denote.Ref.{now}
+use Rattle.sha256.specs.Padding.{pad}
+use Rattle.sha256.specs.Hash.{schedule}
+use Rattle.sha256.proofs.Scheduling.{loaded}
+use borrow.Author.Needs.{needs}
+use Rattle.sha256.proofs.schedule.load.Statement.{statement}
+use Rattle.sha256.proofs.schedule.load.Tie as tie
+
+abbrev Inv-loop : tie.InvT-loop
+Inv-loop message i ws₀ t₀ ws t = (t ≤ 16) × (length ws ≡ 64) × (take t ws ≡ schedule (pad message) i t)
+
+abbrev μ-loop : tie.MeasureT-loop
+μ-loop message i ws₀ t₀ ws t = 16 - t
+
+loop-holds : tie.Need-loop-holds Inv-loop μ-loop
+unfolding schedule
+loop-holds c = (search needs, c .before .pre .1, refl)
+
+mul-word-at : tie.Need-mul-word-at Inv-loop μ-loop
+mul-word-at c = search needs
+
+mul-word-at-2 : tie.Need-mul-word-at-2 Inv-loop μ-loop
+mul-word-at-2 c = search needs
+
+add-word-at : tie.Need-add-word-at Inv-loop μ-loop
+add-word-at c = search needs
+
+word-at-requires : tie.Need-word-at-requires Inv-loop μ-loop
+word-at-requires c κs = search needs
+
+mul-ws : tie.Need-mul-ws Inv-loop μ-loop
+mul-ws c = search needs
+
+element-write-ws : tie.Need-element-write-ws Inv-loop μ-loop
+element-write-ws c = search needs
+
+add-t : tie.Need-add-t Inv-loop μ-loop
+add-t c = search needs
+
+loop-less : tie.Need-loop-less Inv-loop μ-loop
+loop-less c = search needs
+
+loop-again : tie.Need-loop-again Inv-loop μ-loop
+loop-again c =
+    let p = c .before .before in
+    let a = c .before .before .before .before .args in
+    let k = p .loop in (
+      search needs,
+      simp length-set (omega arith),
+      loaded (pad (now (a .message))) (a .i) (k .ws) (k .t) (omega arith) (k .inv .2) (c .word-at .result) (omega arith) (c .word-at .ensures),
+    )
+
+returns : tie.Need-returns Inv-loop μ-loop
+returns c =
+    let k = c .before .loop in
+    let a = c .before .before .before .args in
+    let done : k .t ≡ 16 = omega arith in
+    (k .inv .1, ap (λ (n : ℕ). take n (k .ws)) (sym done) ∙ k .inv .2 ∙ ap (schedule (pad (now (a .message))) (a .i)) done)
+
+pub load-spec : {M : Type 1} → statement M
+load-spec =
+    tie.close
+    (tie.spec
+    Inv-loop
+    μ-loop
+    loop-holds
+    mul-word-at
+    mul-word-at-2
+    add-word-at
+    word-at-requires
+    mul-ws
+    element-write-ws
+    add-t
+    loop-less
+    loop-again
+    returns)
