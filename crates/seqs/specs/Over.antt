@@ -6,8 +6,11 @@ use Prim.Native.Nat.{ℕ, zero, suc, _+_, _<_, _≤_}
 use native.Mathlib.Nat.{not-suc-le-zero, le-of-suc-le-suc}
 use native.Mathlib.Numerals.{add-one}
 use native.Mathlib.Omega.{arith}
+use borrow.Author.Tests.{le-leb, lt-leb}
+use lib.Dec.{leb}
 use lib.ListN.{length, getD, take, drop, set, length-append, length-take, length-drop}
 use lib.Seq.{take-all}
+use Rattle.seqs.specs.Choose.{pick}
 
 module _ {ℓ} {A : Type ℓ} where
   -- the first n elements of l stand over those of the buffer d, and the rest of d is left
@@ -33,3 +36,15 @@ module _ {ℓ} {A : Type ℓ} where
 
   pub over-length : (n : ℕ) (l d : List A) → n ≤ length l → n ≤ length d → length (over n l d) ≡ length d
   over-length n l d h k = simp (length-append, length-take, length-drop) (omega arith)
+
+  -- a buffer over whose front a list is to be written: it is, where it fits, and else nothing is
+  unfoldable pub written : List A → List A → List A
+  written l d = pick (leb (length l) (length d)) (l ++ drop (length l) d) d
+
+  pub written-fits : (l d : List A) (n : ℕ) → length l ≡ n → n ≤ length d → written l d ≡ l ++ drop n d
+  unfolding written
+  written-fits l d n e h = rw (e, le-leb n (length d) h)
+
+  pub written-not : (l d : List A) (n : ℕ) → length l ≡ n → length d < n → written l d ≡ d
+  unfolding written
+  written-not l d n e h = rw (e, lt-leb n (length d) h)

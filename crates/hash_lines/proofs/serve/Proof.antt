@@ -1,0 +1,98 @@
+-- Every cut lies within the piece and the space, so each turn goes on in the piece.
+use mathlib.Core.Path.{_≡_, refl}
+use Prim.Native.Nat.{_-_, _≤_}
+use native.Mathlib.Omega.{arith}
+use lib.ListN.{length}
+use Rattle.pieces.proofs.Laws.{found}
+use mathlib.Core.Path.{_≡_, refl, sym, subst, _∙_}
+use Prim.Native.Nat.{ℕ, _-_, _≤_, _<_}
+use Rattle.pieces.specs.declared.Cut.{Cut}
+use Rattle.pieces.specs.Cutting.{Within}
+use Rattle.pieces.proofs.Laws.{within}
+use borrow.Author.Needs.{needs}
+use Rattle.hash_lines.proofs.serve.Statement.{statement}
+use Rattle.hash_lines.proofs.serve.Tie as tie
+
+abbrev Inv-loop : tie.InvT-loop
+Inv-loop piece line₀ held at₀ n₀ line at n = (at ≤ length piece) × (n ≤ length line) × (length line ≡ length line₀)
+
+abbrev μ-loop : tie.MeasureT-loop
+μ-loop piece line₀ held at₀ n₀ line at n = length piece - at
+
+loop-holds : tie.Need-loop-holds Inv-loop μ-loop
+loop-holds c = (omega arith, omega arith, refl)
+
+next-line-requires : tie.Need-next-line-requires Inv-loop μ-loop
+next-line-requires c κs = search needs
+
+enum-known-next : tie.Need-enum-known-next Inv-loop μ-loop
+enum-known-next c = search needs
+
+sub-print-answer : tie.Need-sub-print-answer Inv-loop μ-loop
+sub-print-answer c = search needs
+
+part-print-answer-start : tie.Need-part-print-answer-start Inv-loop μ-loop
+part-print-answer-start c = search needs
+
+part-print-answer-end : tie.Need-part-print-answer-end Inv-loop μ-loop
+part-print-answer-end c =
+    let k = c .before .before .before .before .before .before .before .before .before .loop in
+    let t = c .before .before .before .before .before .before .next-line in
+    let w = found (c .before .before .before .before .before .before .before .before .before .before .before .before .args .piece .now) (k .at) (k .n) (length (k .line)) _ _ (t .ensures .0) (c .before .before .next .given .1) (omega arith) (omega arith) in
+    omega (arith, t .kept .1 .1 .0)
+
+print-answer-requires : tie.Need-print-answer-requires Inv-loop μ-loop
+print-answer-requires c κs = search needs
+
+loop-less : tie.Need-loop-less Inv-loop μ-loop
+loop-less c =
+    let k = c .before .before .before .before .before .before .before .before .before .before .before .loop in
+    let w = found (c .before .before .before .before .before .before .before .before .before .before .before .before .before .before .args .piece .now) (k .at) (k .n) (length (k .line)) _ _ (c .before .before .before .before .before .before .before .before .next-line .ensures .0) (c .before .before .before .before .next .given .1) (omega arith) (omega arith) in
+    omega arith
+
+loop-again : tie.Need-loop-again Inv-loop μ-loop
+loop-again c =
+    let k = c .before .before .before .before .before .before .before .before .before .before .before .loop in
+    let t = c .before .before .before .before .before .before .before .before .next-line in
+    let w = found (c .before .before .before .before .before .before .before .before .before .before .before .before .before .before .args .piece .now) (k .at) (k .n) (length (k .line)) _ _ (t .ensures .0) (c .before .before .before .before .next .given .1) (omega arith) (omega arith) in
+    (omega arith, omega arith, omega (arith, t .kept .1 .1 .0))
+
+enum-known-len : tie.Need-enum-known-len Inv-loop μ-loop
+enum-known-len c = search needs
+
+loop-less-2 : tie.Need-loop-less-2 Inv-loop μ-loop
+loop-less-2 c = search needs
+
+loop-again-2 : tie.Need-loop-again-2 Inv-loop μ-loop
+loop-again-2 c =
+    let k = c .before .before .before .before .before .before .before .before .loop in
+    let t = c .before .before .before .before .before .next-line in
+    let w = found (c .before .before .before .before .before .before .before .before .before .before .before .args .piece .now) (k .at) (k .n) (length (k .line)) _ _ (t .ensures .0) (c .before .len .given .1) (omega arith) (omega arith) in
+    (omega arith, omega (arith, t .kept .1 .1 .0), omega (arith, t .kept .1 .1 .0))
+
+same-length : tie.Need-same-length Inv-loop μ-loop
+same-length c = search needs
+
+returns : tie.Need-returns Inv-loop μ-loop
+returns c = search needs
+
+pub serve-spec : {M : Type 1} → statement M
+serve-spec =
+    tie.close
+    (tie.spec
+    Inv-loop
+    μ-loop
+    loop-holds
+    next-line-requires
+    enum-known-next
+    sub-print-answer
+    part-print-answer-start
+    part-print-answer-end
+    print-answer-requires
+    loop-less
+    loop-again
+    enum-known-len
+    loop-less-2
+    loop-again-2
+    same-length
+    returns)

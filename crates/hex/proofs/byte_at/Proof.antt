@@ -1,0 +1,65 @@
+-- A byte is its two digits' values together, and 0 past the last.
+use mathlib.Core.Path.{sym}
+use Prim.Native.Nat.{_+_, _*_}
+use native.Mathlib.Omega.{arith}
+use lib.ListN.{getD}
+use Rattle.hex.proofs.Laws.{value-small, bytes-at, bytes-past}
+use borrow.Author.Needs.{needs}
+use Rattle.hex.proofs.byte_at.Statement.{statement}
+use Rattle.hex.proofs.byte_at.Tie as tie
+
+returns : tie.Need-returns
+returns c = let a = c .before .before .args in sym (bytes-past (a .line .now) (a .i) (c .if1 .taken))
+
+mul-value : tie.Need-mul-value
+mul-value c = search needs
+
+shared-slice-read-value : tie.Need-shared-slice-read-value
+shared-slice-read-value c = search needs
+
+value-requires : tie.Need-value-requires
+value-requires c κs = search needs
+
+mul-value-2 : tie.Need-mul-value-2
+mul-value-2 c = search needs
+
+add-value : tie.Need-add-value
+add-value c = search needs
+
+shared-slice-read-value-2 : tie.Need-shared-slice-read-value-2
+shared-slice-read-value-2 c = search needs
+
+value-requires-2 : tie.Need-value-requires-2
+value-requires-2 c κs = search needs
+
+mul-result : tie.Need-mul-result
+mul-result c =
+    let a = c .before .before .before .before .before .before .args in
+    omega (arith, c .before .before .value .ensures, value-small (getD (a .line .now) (2 * a .i) 0))
+
+add-result : tie.Need-add-result
+add-result c =
+    let a = c .before .before .before .before .before .before .args in
+    let l = a .line .now in
+    omega (arith, c .before .before .value .ensures, c .value2 .ensures, value-small (getD l (2 * a .i) 0), value-small (getD l (2 * a .i + 1) 0))
+
+returns-2 : tie.Need-returns-2
+returns-2 c =
+    let a = c .before .before .before .before .before .before .args in
+    omega (arith, c .before .before .value .ensures, c .value2 .ensures, bytes-at (a .line .now) (a .i) (omega arith))
+
+pub byte-at-spec : {M : Type 1} → statement M
+byte-at-spec =
+    tie.close
+    (tie.spec
+    returns
+    mul-value
+    shared-slice-read-value
+    value-requires
+    mul-value-2
+    add-value
+    shared-slice-read-value-2
+    value-requires-2
+    mul-result
+    add-result
+    returns-2)

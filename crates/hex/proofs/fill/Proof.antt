@@ -1,0 +1,69 @@
+-- After i turns the first i bytes stand over the space.
+use mathlib.Core.Path.{_≡_, refl, _∙_}
+use Prim.Native.Nat.{_-_, _/_, _≤_}
+use native.Mathlib.Omega.{arith}
+use lib.ListN.{length, length-set}
+use Rattle.seqs.specs.Over.{over, over-next, over-all}
+use Rattle.hex.specs.Hex.{bytesOf}
+use Rattle.hex.proofs.Laws.{bytes-length}
+use borrow.Author.Needs.{needs}
+use Rattle.hex.proofs.fill.Statement.{statement}
+use Rattle.hex.proofs.fill.Tie as tie
+
+abbrev Inv-loop : tie.InvT-loop
+Inv-loop line space₀ n i₀ space i = (i ≤ n) × (space ≡ over i (bytesOf line) space₀) × (length space ≡ length space₀)
+
+abbrev μ-loop : tie.MeasureT-loop
+μ-loop line space₀ n i₀ space i = n - i
+
+loop-holds : tie.Need-loop-holds Inv-loop μ-loop
+loop-holds c = (search needs, refl, refl)
+
+byte-at-requires : tie.Need-byte-at-requires Inv-loop μ-loop
+byte-at-requires c κs = search needs
+
+slice-write-space : tie.Need-slice-write-space Inv-loop μ-loop
+slice-write-space c = search needs
+
+add-i : tie.Need-add-i Inv-loop μ-loop
+add-i c = search needs
+
+loop-less : tie.Need-loop-less Inv-loop μ-loop
+loop-less c = search needs
+
+loop-again : tie.Need-loop-again Inv-loop μ-loop
+loop-again c =
+    let a = c .before .before .before .before .before .args in
+    let l = a .line .now in
+    let k = c .before .before .loop in (
+      omega arith,
+      over-next (k .i) (bytesOf l) (a .space .now) (k .space) (c .byte-at .result) 0 (k .inv .1) (c .byte-at .ensures)
+          (omega (arith, bytes-length l)) (omega arith),
+      simp length-set (omega arith),
+    )
+
+same-length : tie.Need-same-length Inv-loop μ-loop
+same-length c = search needs
+
+returns : tie.Need-returns Inv-loop μ-loop
+returns c =
+    let a = c .before .before .before .before .args in
+    let l = a .line .now in
+    let k = c .before .loop in
+    let e : k .i ≡ length l / 2 = omega arith in
+    k .inv .1 ∙ rw e (over-all (length l / 2) (bytesOf l) (a .space .now) (bytes-length l))
+
+pub fill-spec : {M : Type 1} → statement M
+fill-spec =
+    tie.close
+    (tie.spec
+    Inv-loop
+    μ-loop
+    loop-holds
+    byte-at-requires
+    slice-write-space
+    add-i
+    loop-less
+    loop-again
+    same-length
+    returns)

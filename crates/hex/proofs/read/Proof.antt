@@ -1,0 +1,35 @@
+-- By whether the space has room.
+use mathlib.Core.Path.{sym, _∙_}
+use Prim.Native.Nat.{_/_}
+use native.Mathlib.Omega.{arith}
+use borrow.Author.Tests.{le-leb, lt-leb}
+use lib.ListN.{length}
+use Rattle.seqs.specs.Over.{written-fits, written-not}
+use Rattle.hex.specs.Hex.{bytesOf}
+use Rattle.hex.proofs.Laws.{bytes-length}
+use borrow.Author.Needs.{needs}
+use Rattle.hex.proofs.read.Statement.{statement}
+use Rattle.hex.proofs.read.Tie as tie
+
+returns : tie.Need-returns
+returns c =
+    let a = c .before .before .before .args in
+    let l = a .line .now in
+    (sym (lt-leb _ _ (c .if1 .taken)), sym (written-not (bytesOf l) (a .space .now) (length l / 2) (bytes-length l) (omega arith)))
+
+fill-requires : tie.Need-fill-requires
+fill-requires c κs = search needs
+
+same-length : tie.Need-same-length
+same-length c = search needs
+
+returns-2 : tie.Need-returns-2
+returns-2 c =
+    let a = c .before .before .before .before .before .before .before .args in
+    let l = a .line .now in (
+      sym (le-leb _ _ (c .before .before .before .before .if1 .left)),
+      c .before .before .fill .ensures ∙ sym (written-fits (bytesOf l) (a .space .now) (length l / 2) (bytes-length l) (omega arith)),
+    )
+
+pub read-spec : {M : Type 1} → statement M
+read-spec = tie.close (tie.spec returns fill-requires same-length returns-2)

@@ -1,0 +1,114 @@
+-- After i turns the digits of the first i bytes stand over the space; the last store is the 0A.
+use mathlib.Core.Path.{_≡_, refl, sym, _∙_}
+use mathlib.Core.List.{[], _∷_}
+use Prim.Native.Nat.{suc, _+_, _-_, _*_, _≤_}
+use native.Mathlib.Omega.{arith}
+use lib.ListN.{length, length-set}
+use Rattle.seqs.specs.Over.{over, over-next, over-all}
+use Rattle.hex.specs.Hex.{lineOf}
+use Rattle.hex.proofs.Laws.{digits-at, line-last, line-length}
+use borrow.Author.Needs.{needs}
+use Rattle.hex.proofs.spell.Statement.{statement}
+use Rattle.hex.proofs.spell.Tie as tie
+
+abbrev Inv-loop : tie.InvT-loop
+Inv-loop bytes space₀ i₀ space i = (i ≤ length bytes) × (space ≡ over (2 * i) (lineOf bytes) space₀) × (length space ≡ length space₀)
+
+abbrev μ-loop : tie.MeasureT-loop
+μ-loop bytes space₀ i₀ space i = length bytes - i
+
+loop-holds : tie.Need-loop-holds Inv-loop μ-loop
+loop-holds c = (search needs, refl, refl)
+
+shared-slice-read-b : tie.Need-shared-slice-read-b Inv-loop μ-loop
+shared-slice-read-b c = search needs
+
+high-digit-requires : tie.Need-high-digit-requires Inv-loop μ-loop
+high-digit-requires c κs = search needs
+
+mul-space : tie.Need-mul-space Inv-loop μ-loop
+mul-space c = search needs
+
+slice-write-space : tie.Need-slice-write-space Inv-loop μ-loop
+slice-write-space c = search needs
+
+low-digit-requires : tie.Need-low-digit-requires Inv-loop μ-loop
+low-digit-requires c κs = search needs
+
+mul-space-2 : tie.Need-mul-space-2 Inv-loop μ-loop
+mul-space-2 c = search needs
+
+add-space : tie.Need-add-space Inv-loop μ-loop
+add-space c = search needs
+
+slice-write-space-2 : tie.Need-slice-write-space-2 Inv-loop μ-loop
+slice-write-space-2 c = simp length-set (omega arith)
+
+add-i : tie.Need-add-i Inv-loop μ-loop
+add-i c = search needs
+
+loop-less : tie.Need-loop-less Inv-loop μ-loop
+loop-less c = search needs
+
+loop-again : tie.Need-loop-again Inv-loop μ-loop
+unfolding lineOf
+loop-again c =
+    let a = c .before .before .before .before .before .before .before .args in
+    let f = a .bytes .now in
+    let d = a .space .now in
+    let k = c .before .before .before .before .loop in
+    let i = k .i in
+    let inside : suc i ≤ length f = omega arith in
+    let n = line-length f in
+    let at = digits-at f (0x0a ∷ []) i inside in
+    let e : 2 * (i + 1) ≡ 2 * i + 1 + 1 = omega arith in
+    let high =
+    over-next (2 * i) (lineOf f) d (k .space) (c .before .high-digit .result) 0 (k .inv .1)
+    (c .before .high-digit .ensures ∙ sym (at .0)) (omega arith) (omega arith) in (
+      omega arith,
+      rw e (over-next (2 * i + 1) (lineOf f) d _ (c .low-digit .result) 0 high (c .low-digit .ensures ∙ sym (at .1)) (omega arith) (omega arith)),
+      simp length-set (omega arith),
+    )
+
+mul-space-3 : tie.Need-mul-space-3 Inv-loop μ-loop
+mul-space-3 c = search needs
+
+slice-write-space-3 : tie.Need-slice-write-space-3 Inv-loop μ-loop
+slice-write-space-3 c = search needs
+
+same-length : tie.Need-same-length Inv-loop μ-loop
+same-length c = simp length-set (omega arith)
+
+returns : tie.Need-returns Inv-loop μ-loop
+returns c =
+    let a = c .before .before .before .before .args in
+    let f = a .bytes .now in
+    let d = a .space .now in
+    let k = c .before .loop in
+    let e : k .i ≡ length f = omega arith in
+    let n = line-length f in
+    rw e (over-next (2 * length f) (lineOf f) d (k .space) 0x0a 0 (k .inv .1 ∙ rw e) (sym (line-last f)) (omega arith) (omega arith)
+    ∙ over-all (2 * length f + 1) (lineOf f) d n)
+
+pub spell-spec : {M : Type 1} → statement M
+spell-spec =
+    tie.close
+    (tie.spec
+    Inv-loop
+    μ-loop
+    loop-holds
+    shared-slice-read-b
+    high-digit-requires
+    mul-space
+    slice-write-space
+    low-digit-requires
+    mul-space-2
+    add-space
+    slice-write-space-2
+    add-i
+    loop-less
+    loop-again
+    mul-space-3
+    slice-write-space-3
+    same-length
+    returns)

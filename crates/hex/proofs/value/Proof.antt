@@ -1,0 +1,38 @@
+-- A digit lies in one of the two ranges, and its value is counted from the range's start.
+use mathlib.Core.Path.{sym, _∙_}
+use native.Mathlib.Omega.{arith}
+use borrow.Author.Tests.{not-true, not-false}
+use Rattle.hex.proofs.Laws.{digit-range, value-decimal, value-letter, value-other}
+use borrow.Author.Needs.{needs}
+use Rattle.hex.proofs.value.Statement.{statement}
+use Rattle.hex.proofs.value.Tie as tie
+
+is-digit-requires : tie.Need-is-digit-requires
+is-digit-requires c κs = search needs
+
+returns : tie.Need-returns
+returns c = sym (value-other (c .before .before .args .c) (sym (c .before .is-digit .ensures) ∙ not-true _ (c .if1 .taken)))
+
+sub-result : tie.Need-sub-result
+sub-result c =
+    let r = digit-range (c .before .before .before .args .c) (sym (c .before .before .is-digit .ensures) ∙ not-false _ (c .before .if1 .left)) in
+    omega (arith, r .0)
+
+sub-result-2 : tie.Need-sub-result-2
+sub-result-2 c =
+    let r = digit-range (c .before .before .before .args .c) (sym (c .before .before .is-digit .ensures) ∙ not-false _ (c .before .if1 .left)) in
+    omega (arith, r .1 (c .if2 .left))
+
+returns-2 : tie.Need-returns-2
+returns-2 c =
+    let r = digit-range (c .before .before .before .args .c) (sym (c .before .before .is-digit .ensures) ∙ not-false _ (c .before .if1 .left)) in
+    sym (value-decimal (c .before .before .before .args .c) (r .0) (c .if2 .taken))
+
+returns-3 : tie.Need-returns-3
+returns-3 c =
+    let r = digit-range (c .before .before .before .args .c) (sym (c .before .before .is-digit .ensures) ∙ not-false _ (c .before .if1 .left)) .1 (c .if2 .left) in
+    sym (value-letter (c .before .before .before .args .c) (r .0) (r .1))
+
+pub value-spec : {M : Type 1} → statement M
+value-spec =
+    tie.close (tie.spec is-digit-requires returns sub-result sub-result-2 returns-2 returns-3)
