@@ -1,0 +1,219 @@
+//! The three programs as they are run: `reference`, `sessions` and `vectors`.
+
+use reference::sessions::generate;
+use std::io::{BufRead, BufReader, Write};
+use std::path::{Path, PathBuf};
+use std::process::{Command, Output, Stdio};
+
+const REFERENCE: &str = env!("CARGO_BIN_EXE_reference");
+const SESSIONS: &str = env!("CARGO_BIN_EXE_sessions");
+const VECTORS: &str = env!("CARGO_BIN_EXE_vectors");
+
+/// Runs a program on some input and gives what it wrote. The input is written
+/// from another thread, for the program answers while it reads.
+fn run(program: &str, arguments: &[&str], input: &[u8]) -> Output {
+    let mut child = Command::new(program)
+        .args(arguments)
+        .stdin(Stdio::piped())
+        .stdout(Stdio::piped())
+        .stderr(Stdio::piped())
+        .spawn()
+        .expect("the program starts");
+    let mut pipe = child.stdin.take().expect("it has an input");
+    let input = input.to_vec();
+    let writer = std::thread::spawn(move || {
+        // A program that stops early closes the pipe; that is its affair.
+        let _ = pipe.write_all(&input);
+    });
+    let output = child.wait_with_output().expect("the program ends");
+    writer.join().expect("the input is written");
+    output
+}
+
+fn replies(arguments: &[&str], input: &[u8]) -> String {
+    let output = run(REFERENCE, arguments, input);
+    assert!(output.status.success());
+    String::from_utf8(output.stdout).unwrap()
+}
+
+#[test]
+fn empty_input_gives_empty_output() {
+    assert_eq!(replies(&[], b""), "");
+    assert_eq!(replies(&["--trace"], b""), "");
+}
+
+#[test]
+fn a_last_piece_without_newline_counts_if_not_empty() {
+    assert_eq!(replies(&[], b"ff"), "0002\n");
+    assert_eq!(replies(&[], b"ff\n"), "0002\n");
+    assert_eq!(replies(&[], b"ff\nff"), "0002\n0002\n");
+    assert_eq!(replies(&[], b"\n"), "0001\n");
+    assert_eq!(replies(&[], b"\n\n7"), "0001\n0001\n0001\n");
+    assert_eq!(replies(&[], b"ff\r\n"), "0001\n");
+}
+
+#[test]
+fn a_line_longer_than_any_frame_gets_one_reply() {
+    for length in [4243, 4245, 4246, 8192, 8193, 100_000, 1_000_000] {
+        let mut input = vec![b'f'; length];
+        assert_eq!(replies(&[], &input), "0001\n");
+        input.extend_from_slice(b"\nff\n");
+        assert_eq!(replies(&[], &input), "0001\n0002\n");
+    }
+    assert_eq!(replies(&[], &[b'f'; 4244]), "0002\n");
+}
+
+#[test]
+fn the_trace_shows_refusal_and_blocks() {
+    let secret = "01".repeat(32);
+    let input = format!("0f\n10{}\n070000000000000005\n", secret);
+    let traced = replies(&["--trace"], input.as_bytes());
+    let lines: Vec<&str> = traced.lines().collect();
+    assert_eq!(lines[..2], ["0003 3 0", "90 0 0"]);
+    assert!(lines[2].starts_with("87") && lines[2].ends_with(" 0 3"));
+    assert_eq!(lines[2].len(), 66 + 4);
+}
+
+#[test]
+fn replies_are_out_before_more_is_read() {
+    let mut child = Command::new(REFERENCE)
+        .stdin(Stdio::piped())
+        .stdout(Stdio::piped())
+        .spawn()
+        .expect("the program starts");
+    let mut input = child.stdin.take().unwrap();
+    let mut output = BufReader::new(child.stdout.take().unwrap());
+    let secret = "01".repeat(32);
+    for (sent, expected) in [
+        ("7\n".to_string(), vec!["0001"]),
+        (format!("10{}\n", secret), vec!["90"]),
+        ("ff\n0f\n0f00000000000000".to_string(), vec!["0002", "0003"]),
+        ("05\n".to_string(), vec!["8f0000000000000005"]),
+    ] {
+        input.write_all(sent.as_bytes()).unwrap();
+        input.flush().unwrap();
+        for reply in expected {
+            let mut got = String::new();
+            output.read_line(&mut got).unwrap();
+            assert_eq!(got.trim_end(), reply);
+        }
+    }
+    drop(input);
+    assert!(child.wait().unwrap().success());
+}
+
+/// A session made by `sessions` and answered by `reference` is the one made and
+/// answered in this process.
+#[test]
+fn a_session_through_the_programs() {
+    let made = run(SESSIONS, &["42", "2000"], b"");
+    assert!(made.status.success());
+    let mut lines = Vec::new();
+    let mut traced = String::new();
+    let mut plain = String::new();
+    generate(42, 2000, &mut |step| {
+        lines.extend_from_slice(step.line);
+        lines.push(b'\n');
+        let reply = std::str::from_utf8(&step.answer.reply_line).unwrap();
+        let refusal = step.answer.refusal.unwrap_or(0);
+        traced += &format!("{} {} {}\n", reply.trim_end(), refusal, step.answer.blocks);
+        plain += reply;
+    });
+    assert!(made.stdout == lines);
+    assert!(replies(&["--trace"], &lines) == traced);
+    assert!(replies(&[], &lines) == plain);
+    assert!(lines.iter().filter(|byte| **byte == b'\n').count() >= 2000);
+}
+
+#[test]
+fn bad_arguments_get_a_usage_message_and_status_2() {
+    let cases: [(&str, &[&str]); 10] = [
+        (REFERENCE, &["--tracing"]),
+        (REFERENCE, &["--trace", "more"]),
+        (SESSIONS, &[]),
+        (SESSIONS, &["1"]),
+        (SESSIONS, &["1", "2", "3"]),
+        (SESSIONS, &["x", "2"]),
+        (SESSIONS, &["1", "-2"]),
+        (VECTORS, &[]),
+        (VECTORS, &["program"]),
+        (VECTORS, &["program", "--"]),
+    ];
+    for (program, arguments) in cases {
+        let output = run(program, arguments, b"");
+        assert_eq!(output.status.code(), Some(2), "{} {:?}", program, arguments);
+        assert!(output.stdout.is_empty());
+        assert!(String::from_utf8_lossy(&output.stderr).starts_with("usage: "));
+    }
+}
+
+fn vector_file(name: &str) -> String {
+    format!("{}/../vectors/{}", env!("CARGO_MANIFEST_DIR"), name)
+}
+
+/// The example that computes digests, built along with the tests.
+fn digest_program() -> PathBuf {
+    let directory = Path::new(VECTORS).parent().expect("programs lie in a directory");
+    let example = directory.join("examples").join("digest");
+    assert!(example.exists(), "cargo build --examples makes {}", example.display());
+    example
+}
+
+#[test]
+fn vectors_agree_on_all_three_files() {
+    let program = digest_program();
+    let files = ["SHA256ShortMsg.rsp", "SHA256LongMsg.rsp", "SHA256Monte.rsp"].map(vector_file);
+    let mut arguments = vec![program.to_str().unwrap(), "--"];
+    arguments.extend(files.iter().map(String::as_str));
+    let output = run(VECTORS, &arguments, b"");
+    assert_eq!(String::from_utf8_lossy(&output.stderr), "");
+    let expected = "SHA256ShortMsg.rsp: 65 of 65 digests agree\n\
+                    SHA256LongMsg.rsp: 64 of 64 digests agree\n\
+                    SHA256Monte.rsp: 100 of 100 digests agree\n";
+    assert_eq!(String::from_utf8_lossy(&output.stdout), expected);
+    assert_eq!(output.status.code(), Some(0));
+}
+
+/// Writes a file for one test and gives its path.
+fn temporary(name: &str, text: &str) -> String {
+    let path = Path::new(env!("CARGO_TARGET_TMPDIR")).join(name);
+    std::fs::write(&path, text).expect("the file is written");
+    path.to_str().expect("the path is text").to_string()
+}
+
+fn vectors_on(program: &str, file: &str) -> (Option<i32>, String, String) {
+    let output = run(VECTORS, &[program, "--", file], b"");
+    let text = |bytes: Vec<u8>| String::from_utf8(bytes).unwrap();
+    (output.status.code(), text(output.stdout), text(output.stderr))
+}
+
+#[test]
+fn vectors_report_what_is_wrong() {
+    let program = digest_program();
+    let program = program.to_str().unwrap();
+    let wrong = "Len = 0\nMsg = 00\nMD = ".to_string() + &"00".repeat(32) + "\n";
+    let (status, out, _) = vectors_on(program, &temporary("Wrong.rsp", &wrong));
+    assert_eq!((status, out.as_str()), (Some(1), "Wrong.rsp: 0 of 1 digests agree\n"));
+
+    let (status, out, err) = vectors_on(program, &temporary("Empty.rsp", "# nothing\n"));
+    assert_eq!((status, out.as_str()), (Some(1), ""));
+    assert!(err.contains("Empty.rsp") && err.contains("no vector"), "{}", err);
+
+    let short = vector_file("SHA256ShortMsg.rsp");
+    let (status, _, err) = vectors_on(REFERENCE, &short);
+    assert_eq!(status, Some(1));
+    assert!(err.contains("not 64 lower-case hexadecimal digits"), "{}", err);
+
+    // A program that ends without a word: `sessions` without arguments.
+    let (status, _, err) = vectors_on(SESSIONS, &short);
+    assert_eq!(status, Some(1));
+    assert!(err.contains("ended early"), "{}", err);
+
+    let (status, _, err) = vectors_on("/no/such/program", &short);
+    assert_eq!(status, Some(1));
+    assert!(err.contains("cannot be started"), "{}", err);
+
+    let (status, _, err) = vectors_on(program, "no-such-file.rsp");
+    assert_eq!(status, Some(1));
+    assert!(err.contains("no-such-file.rsp: cannot be read"), "{}", err);
+}
