@@ -1,8 +1,149 @@
--- Lists of bytes.
-use mathlib.Core.List.{List, [], _∷_}
-use Prim.Native.Nat.{ℕ, _<_}
+-- Bytes: numbers as bytes, most significant first, and back; equality and zero of lists of bytes.
+use mathlib.Core.Bool.{Bool, true, false}
+use mathlib.Core.Path.{_≡_, refl, sym, ap, _∙_}
+use mathlib.Core.List.{List, [], _∷_, _++_}
+use Prim.Native.Nat.{ℕ, suc, _+_, _*_, _/_, _%_, _^_, _<_, _≤_}
+use native.Mathlib.Nat.{div-div-eq-div-mul, div-add-mod, mod-eq-of-lt}
+use native.Mathlib.Numerals.{add-one}
+use native.Mathlib.Omega.{arith}
+use borrow.Author.Tests.{eqb-true, eq-eqb}
+use lib.Dec.{eqb}
+use lib.ListN.{length, getD, take, drop, drop-of-length-le}
+use lib.Seq.{drop-cons}
+use Rattle.seqs.specs.Choose.{both, both-true}
 
 -- every element is a byte
 abbrev pub Bytes : List ℕ → Type 0
 Bytes [] = Unit {0}
 Bytes (b ∷ l) = (b < 256) × Bytes l
+
+-- eight bits of x, from bit k on
+abbrev pub byteOf : ℕ → ℕ → ℕ
+byteOf x k = x / 2 ^ k % 256
+
+-- x as four bytes, the most significant first; of a larger x the low 32 bits
+abbrev pub be32 : ℕ → List ℕ
+be32 x = byteOf x 24 ∷ byteOf x 16 ∷ byteOf x 8 ∷ byteOf x 0 ∷ []
+
+-- x as eight bytes; of a larger x the low 64 bits
+unfoldable pub be64 : ℕ → List ℕ
+be64 x =
+    byteOf x 56 ∷ byteOf x 48 ∷ byteOf x 40 ∷ byteOf x 32 ∷
+    byteOf x 24 ∷ byteOf x 16 ∷ byteOf x 8 ∷ byteOf x 0 ∷ []
+
+-- the number that some bytes stand for, those of n before them
+abbrev pub numberFrom : ℕ → List ℕ → ℕ
+numberFrom n [] = n
+numberFrom n (b ∷ l) = numberFrom (256 * n + b) l
+
+abbrev pub numberOf : List ℕ → ℕ
+numberOf l = numberFrom 0 l
+
+-- eight bytes as a number
+abbrev pub number8 : ℕ → ℕ → ℕ → ℕ → ℕ → ℕ → ℕ → ℕ → ℕ
+number8 a b c d e f g h = 256 * (256 * (256 * (256 * (256 * (256 * (256 * a + b) + c) + d) + e) + f) + g) + h
+
+-- the number in the eight bytes from place `at` on, a missing byte being 0
+unfoldable pub numberAt : List ℕ → ℕ → ℕ
+numberAt s at =
+    number8 (getD s at 0) (getD s (at + 1) 0) (getD s (at + 2) 0) (getD s (at + 3) 0) (getD s (at + 4) 0) (getD s (at + 5) 0)
+    (getD s (at + 6) 0) (getD s (at + 7) 0)
+
+-- two lists are the same, element by element
+abbrev pub same : List ℕ → List ℕ → Bool
+same [] [] = true
+same [] (b ∷ m) = false
+same (a ∷ l) [] = false
+same (a ∷ l) (b ∷ m) = both (eqb a b) (same l m)
+
+-- every element is 0
+abbrev pub allZero : List ℕ → Bool
+allZero [] = true
+allZero (a ∷ l) = both (eqb a 0) (allZero l)
+
+-- ── laws ──
+
+-- a digit to the base 256 put back
+put-back : (n d : ℕ) → 256 * (n / (d * 256)) + n / d % 256 ≡ n / d
+put-back n d = rw (← div-div-eq-div-mul n d 256) (div-add-mod (n / d) 256)
+
+joined : (a b c d e f g h p q r s t u n : ℕ)
+    → 256 * a + b ≡ p → 256 * p + c ≡ q → 256 * q + d ≡ r → 256 * r + e ≡ s → 256 * s + f ≡ t → 256 * t + g ≡ u → 256 * u + h ≡ n
+    → 256 * (256 * (256 * (256 * (256 * (256 * (256 * (256 * 0 + a) + b) + c) + d) + e) + f) + g) + h ≡ n
+joined a b c d e f g h p q r s t u n i j k l m o v = omega arith
+
+-- a number is what its bytes stand for
+pub number-be64 : (n : ℕ) → n < 2 ^ 64 → numberOf (be64 n) ≡ n
+unfolding be64
+number-be64 n h =
+    let top : n / 2 ^ 56 % 256 ≡ n / 2 ^ 56 = mod-eq-of-lt (omega arith) in
+    let last : n / 2 ^ 0 % 256 ≡ n % 256 = omega arith in
+    rw (top, last)
+    (joined _ _ _ _ _ _ _ _ _ _ _ _ _ _ n
+    (put-back n (2 ^ 48)) (put-back n (2 ^ 40)) (put-back n (2 ^ 32)) (put-back n (2 ^ 24)) (put-back n (2 ^ 16)) (put-back n (2 ^ 8))
+    (div-add-mod n 256))
+
+-- the number of eight bytes that are there
+part-suc : (k at : ℕ) (s : List ℕ) → at < length s → take (suc k) (drop at s) ≡ getD s at 0 ∷ take k (drop (at + 1) s)
+part-suc k at s h = rw (drop-cons s at 0 h, add-one)
+
+pub number-at : (s : List ℕ) (at : ℕ) → at + 8 ≤ length s → numberOf (take 8 (drop at s)) ≡ numberAt s at
+unfolding numberAt
+number-at s at h =
+    let e2 : at + 1 + 1 ≡ at + 2 = omega arith in
+    let e3 : at + 2 + 1 ≡ at + 3 = omega arith in
+    let e4 : at + 3 + 1 ≡ at + 4 = omega arith in
+    let e5 : at + 4 + 1 ≡ at + 5 = omega arith in
+    let e6 : at + 5 + 1 ≡ at + 6 = omega arith in
+    let e7 : at + 6 + 1 ≡ at + 7 = omega arith in
+    let z : 256 * 0 + getD s at 0 ≡ getD s at 0 = omega arith in
+    rw (
+      part-suc 7 at s (omega arith),
+      part-suc 6 (at + 1) s (omega arith),
+      e2,
+      part-suc 5 (at + 2) s (omega arith),
+      e3,
+      part-suc 4 (at + 3) s (omega arith),
+      e4,
+      part-suc 3 (at + 4) s (omega arith),
+      e5,
+      part-suc 2 (at + 5) s (omega arith),
+      e6,
+      part-suc 1 (at + 6) s (omega arith),
+      e7,
+      part-suc 0 (at + 7) s (omega arith),
+      z,
+    )
+
+pub be64-length : (n : ℕ) → length (be64 n) ≡ 8
+unfolding be64
+be64-length n = refl
+
+pub same-true : (l m : List ℕ) → same l m ≡ true → l ≡ m
+same-true [] [] h = refl
+same-true [] (b ∷ m) h = cc
+same-true (a ∷ l) [] h = cc
+same-true (a ∷ l) (b ∷ m) h =
+    let p = both-true (eqb a b) (same l m) h in
+    let e : a ≡ b = eqb-true a b (p .0) in
+    let f = same-true l m (p .1) in
+    cc
+
+pub same-refl : (l : List ℕ) → same l l ≡ true
+same-refl [] = refl
+same-refl (a ∷ l) = rw (eq-eqb a a refl) (same-refl l)
+
+-- one element more of a comparison, of a test for zero
+pub same-step : (l m : List ℕ) (i : ℕ) (t : Bool) → i < length l → i < length m → eqb (getD l i 0) (getD m i 0) ≡ t
+    → same (drop i l) (drop i m) ≡ both t (same (drop (i + 1) l) (drop (i + 1) m))
+same-step l m i t h k e = rw (drop-cons l i 0 h, drop-cons m i 0 k, add-one, e)
+
+pub same-end : (l m : List ℕ) (i : ℕ) → length l ≤ i → length m ≤ i → same (drop i l) (drop i m) ≡ true
+same-end l m i h k = rw (drop-of-length-le l h, drop-of-length-le m k)
+
+pub zero-step : (l : List ℕ) (i : ℕ) (t : Bool) → i < length l → eqb (getD l i 0) 0 ≡ t
+    → allZero (drop i l) ≡ both t (allZero (drop (i + 1) l))
+zero-step l i t h e = rw (drop-cons l i 0 h, add-one, e)
+
+pub zero-end : (l : List ℕ) (i : ℕ) → length l ≤ i → allZero (drop i l) ≡ true
+zero-end l i h = rw (drop-of-length-le l h)

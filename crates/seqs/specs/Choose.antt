@@ -7,6 +7,16 @@ abbrev pub pick {ℓ} : {A : Type ℓ} → Bool → A → A → A
 pick true a b = a
 pick false a b = b
 
+-- one of two tests is true
+abbrev pub either : Bool → Bool → Bool
+either true b = true
+either false b = b
+
+-- the test is false
+abbrev pub opposite : Bool → Bool
+opposite true = false
+opposite false = true
+
 -- both tests are true
 abbrev pub both : Bool → Bool → Bool
 both true b = b
@@ -15,3 +25,19 @@ both false b = false
 pub both-true : (p q : Bool) → both p q ≡ true → (p ≡ true) × (q ≡ true)
 both-true true q h = (refl, h)
 both-true false q h = (h, cc)
+
+pub both-right : (p : Bool) → both p true ≡ p
+both-right true = refl
+both-right false = refl
+
+pub both-no : (p : Bool) → both p false ≡ false
+both-no true = refl
+both-no false = refl
+
+pub either-yes : (p : Bool) → either p true ≡ true
+either-yes true = refl
+either-yes false = refl
+
+pub either-no : (p : Bool) → either p false ≡ p
+either-no true = refl
+either-no false = refl

@@ -7,7 +7,8 @@ use native.Mathlib.Omega.{arith}
 use lib.ListN.{length, getD, take, drop, replicate, length-append, length-replicate, getD-replicate, List·getD-append}
 use lib.Seq.{getD-append-seam, getD-append-add, take-append-seam, drop-append-add, drop-at}
 use lib.Pow.{field, mod-mod-pow}
-use Rattle.sha256.specs.Padding.{byteOf, be64, zeros, pad, blocks, Padded}
+use Rattle.seqs.specs.Bytes.{byteOf, be64}
+use Rattle.sha256.specs.Padding.{zeros, pad, blocks, Padded}
 
 -- the message, the byte 80, the zeros and eight bytes fill the blocks
 pub filled : (n : ℕ) → n + 9 + zeros n ≡ blocks n * 64

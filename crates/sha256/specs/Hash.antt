@@ -4,10 +4,11 @@ use mathlib.Core.List.{List, [], _∷_, _++_}
 use lib.Dec.{ltb}
 use lib.ListN.{length, getD}
 use Rattle.seqs.specs.Choose.{pick}
+use Rattle.seqs.specs.Bytes.{be32}
 use Rattle.sha256.specs.declared.State.{State}
 use Rattle.sha256.specs.Words.{_⊞_, Ch, Maj, bigSigma0, bigSigma1, smallSigma0, smallSigma1}
 use Rattle.sha256.specs.Constants.{K, H0}
-use Rattle.sha256.specs.Padding.{byteOf, pad, M}
+use Rattle.sha256.specs.Padding.{pad, M}
 
 -- 6.2.2, step 1: the word that the words 2, 7, 15 and 16 places before it give
 unfoldable pub scheduled : ℕ → ℕ → ℕ → ℕ → ℕ
@@ -69,10 +70,6 @@ added s v =
 unfoldable pub hash : List ℕ → ℕ → State
 hash p zero = H0
 hash p (suc i) = added (hash p i) (rounds 64 (schedule p i 64) (hash p i))
-
--- a word as four bytes
-abbrev pub be32 : ℕ → List ℕ
-be32 x = byteOf x 24 ∷ byteOf x 16 ∷ byteOf x 8 ∷ byteOf x 0 ∷ []
 
 -- the message digest: the eight words of the last hash value
 abbrev pub bytesOf : State → List ℕ

@@ -4,23 +4,14 @@ use Prim.Native.Nat.{ℕ, _+_, _-_, _*_, _/_, _%_, _^_, _≤_, _<_}
 use mathlib.Core.Path.{_≡_}
 use mathlib.Core.List.{List, [], _∷_, _++_}
 use lib.ListN.{length, getD, take, drop, replicate}
-
--- eight bits of x, from bit k on
-abbrev pub byteOf : ℕ → ℕ → ℕ
-byteOf x k = x / 2 ^ k % 256
-
--- x as eight bytes, the most significant first; of a larger x the low 64 bits
-unfoldable pub be64 : ℕ → List ℕ
-be64 x =
-    byteOf x 56 ∷ byteOf x 48 ∷ byteOf x 40 ∷ byteOf x 32 ∷
-    byteOf x 24 ∷ byteOf x 16 ∷ byteOf x 8 ∷ byteOf x 0 ∷ []
+use Rattle.seqs.specs.Bytes.{be64}
 
 -- 5.1.1: how many zero bytes go behind the byte 80 of a message of n bytes: the fewest that leave eight
 -- bytes to the end of a block (`Padded`, `solves` and `least`)
 unfoldable pub zeros : ℕ → ℕ
 zeros n = (119 - n % 64) % 64
 
--- 5.1.1: the message, the bit 1 and k zero bits, the message's length in bits
+-- 5.1.1: the message, the bit 1 and k zero bits, the message's length in bits as 64 bits
 unfoldable pub pad : List ℕ → List ℕ
 pad m = m ++ (0x80 ∷ (replicate (zeros (length m)) 0 ++ be64 (8 * length m)))
 

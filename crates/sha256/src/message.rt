@@ -3,7 +3,8 @@
 ghost use mathlib.Core.Path.{_≡_};
 ghost use Prim.Native.Nat.{_+_, _*_, _≤_, _<_};
 ghost use lib.ListN.{length, getD};
-ghost use Rattle.sha256.specs.Padding.{byteOf, pad, blocks, word, wordAt};
+ghost use Rattle.sha256.specs.Padding.{pad, blocks, word, wordAt};
+ghost use Rattle.seqs.specs.Bytes.{byteOf};
 
 fn join(a: u8, b: u8, c: u8, d: u8) -> u32
     ensures { λ r. ⌜ r ≡ word a b c d ⌝ }

@@ -3,7 +3,7 @@ use mathlib.Core.Path.{ap, _∙_}
 use mathlib.Core.List.{List}
 use Prim.Native.Nat.{ℕ}
 use lib.Seq.{sets}
-use Rattle.sha256.specs.Hash.{be32}
+use Rattle.seqs.specs.Bytes.{be32}
 use borrow.Author.Needs.{needs}
 use Rattle.sha256.proofs.bytes_of.Statement.{statement}
 use Rattle.sha256.proofs.bytes_of.Tie as tie

@@ -4,7 +4,8 @@ use Prim.Native.Nat.{ℕ, _*_, _-_, _%_, _^_}
 use native.Mathlib.Omega.{arith}
 use lib.ListN.{length, getD}
 use denote.Ref.{now}
-use Rattle.sha256.specs.Padding.{byteOf, pad, blocks}
+use Rattle.seqs.specs.Bytes.{byteOf}
+use Rattle.sha256.specs.Padding.{pad, blocks}
 use Rattle.sha256.proofs.Padding.{low64, in-message, at-mark, in-zeros, in-length}
 use borrow.Author.Needs.{needs}
 use Rattle.sha256.proofs.message.padded.Statement.{statement}

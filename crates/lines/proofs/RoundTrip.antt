@@ -1,0 +1,159 @@
+-- Both round trips between frames and lines, and that each frame has one line.
+use mathlib.Core.Path.{_≡_, refl, sym, ap, ap₂, _∙_}
+use mathlib.Core.Bool.{Bool, true, false}
+use mathlib.Core.List.{List, [], _∷_, _++_}
+use Prim.Native.Nat.{ℕ, _+_, _*_, _/_, _%_, _≤_, _<_}
+use native.Mathlib.Omega.{arith}
+use borrow.Author.Tests.{eq-eqb, ne-eqb, eqb-true, eqb-false, le-ltb, lt-ltb, ltb-true, ltb-false}
+use lib.Dec.{eqb, ltb}
+use lib.ListN.{length, drop}
+use Rattle.seqs.specs.Choose.{pick, either, opposite}
+use Rattle.seqs.specs.Bytes.{Bytes}
+use Rattle.hex.specs.Hex.{allDigits, bytesOf, digitsOf, lineOf}
+use Rattle.hex.proofs.Laws.{bytes-of-digits, digits-of-bytes, digits-all, digits-length, bytes-length}
+use Rattle.paper.specs.Requests.{kindOf, known, fits}
+use Rattle.paper.specs.Refusals.{isHex}
+use Rattle.paper.specs.Module.{isWritable, readRefusal, writeRefusal}
+use Rattle.lines.specs.declared.Read.{Read}
+use Rattle.lines.specs.declared.Read.the-variants.{Frame, Refused}
+use Rattle.lines.specs.declared.Wrote.{Wrote}
+use Rattle.lines.specs.declared.Wrote.the-variants.{Line, Rejected}
+use Rattle.lines.specs.Reading.{readOf, frameAfter, wroteOf, lineAfter}
+use Rattle.lines.specs.RoundTrip.{ReadsBack, WrittenReads, WritesBack, ReadWrites, OneLine}
+use Rattle.lines.proofs.Fitting.{firstOf, read-by, write-by}
+use Rattle.lines.proofs.Outcomes.{read-frame, write-line}
+
+-- ── what an accepted line or frame has passed ──
+
+none-of : (a b c d : Bool) → firstOf a b c d ≡ 0 → (a ≡ false) × (b ≡ false) × (c ≡ false) × (d ≡ false)
+none-of true b c d h = absurd (omega arith)
+none-of false true c d h = absurd (omega arith)
+none-of false false true d h = absurd (omega arith)
+none-of false false false true h = absurd (omega arith)
+none-of false false false false h = (refl, refl, refl, refl)
+
+opposite-no : (p : Bool) → opposite p ≡ false → p ≡ true
+opposite-no true h = refl
+opposite-no false h = cc
+
+either-none : (p q : Bool) → either p q ≡ false → (p ≡ false) × (q ≡ false)
+either-none true q h = (h, cc)
+either-none false q h = (refl, h)
+
+read-zero : (l : List ℕ) (s k n r : ℕ) (t : Bool) → eqb r 0 ≡ t
+    → pick t (Frame (kindOf (bytesOf l)) (length (bytesOf l))) (Refused r) ≡ Frame k n → r ≡ 0
+read-zero l s k n r true e h = eqb-true r 0 e
+read-zero l s k n r false e h = let z : _≡_ {A = ℕ} 0 1 = cc in absurd (omega arith)
+
+wrote-zero : (f : List ℕ) (n r : ℕ) (t : Bool) → eqb r 0 ≡ t → pick t (Line (2 * length f + 1)) (Rejected r) ≡ Line n → r ≡ 0
+wrote-zero f n r true e h = eqb-true r 0 e
+wrote-zero f n r false e h = let z : _≡_ {A = ℕ} 0 1 = cc in absurd (omega arith)
+
+record GoodLine (l : List ℕ) (space : ℕ) : Type 0 where
+  hex : isHex l .fails ≡ false
+  kind : known (kindOf (bytesOf l)) ≡ true
+  fit : fits (bytesOf l) ≡ true
+  room : ltb space (length (bytesOf l)) ≡ false
+
+good-line : (l : List ℕ) (space k n : ℕ) → readOf l space ≡ Frame k n → GoodLine l space
+unfolding readOf
+good-line l space k n h =
+    let z = read-zero l space k n (readRefusal l space) (eqb (readRefusal l space) 0) refl h in
+    let p = none-of (isHex l .fails) _ _ (ltb space (length (bytesOf l))) (sym (read-by l space) ∙ z) in
+    record { hex = p .0; kind = opposite-no _ (p .1); fit = opposite-no _ (p .2); room = p .3 }
+
+record GoodFrame (f : List ℕ) (space : ℕ) : Type 0 where
+  size : isWritable f .fails ≡ false
+  kind : known (kindOf f) ≡ true
+  fit : fits f ≡ true
+  room : ltb space (2 * length f + 1) ≡ false
+
+good-frame : (f : List ℕ) (space n : ℕ) → wroteOf f space ≡ Line n → GoodFrame f space
+unfolding wroteOf
+good-frame f space n h =
+    let z = wrote-zero f n (writeRefusal f space) (eqb (writeRefusal f space) 0) refl h in
+    let p = none-of (isWritable f .fails) _ _ (ltb space (2 * length f + 1)) (sym (write-by f space) ∙ z) in
+    record { size = p .0; kind = opposite-no _ (p .1); fit = opposite-no _ (p .2); room = p .3 }
+
+-- a good line is not empty, even, not too long, and of digits alone
+record Digits (l : List ℕ) : Type 0 where
+  some : length l ≡ 0 → ⊥
+  even : length l % 2 ≡ 0
+  short : length l ≤ 4244
+  all : allDigits l ≡ true
+
+digits : (l : List ℕ) → isHex l .fails ≡ false → Digits l
+digits l h =
+    let a = either-none (eqb (length l) 0) _ h in
+    let b = either-none (eqb (length l % 2) 1) _ (a .1) in
+    let c = either-none (ltb 4244 (length l)) _ (b .1) in
+    let odd : length l % 2 ≡ 1 → ⊥ = eqb-false (length l % 2) 1 (b .0) in
+    record {
+      some = eqb-false (length l) 0 (a .0);
+      even = omega arith;
+      short = ltb-false 4244 (length l) (c .0);
+      all = opposite-no (allDigits l) (c .1);
+    }
+
+-- ── reading what was written ──
+
+digits-good : (f : List ℕ) → Bytes f → isWritable f .fails ≡ false → isHex (digitsOf f) .fails ≡ false
+digits-good f b h =
+    let a = either-none (eqb (length f) 0) (ltb 2122 (length f)) h in
+    let some : length f ≡ 0 → ⊥ = eqb-false (length f) 0 (a .0) in
+    let short : length f ≤ 2122 = ltb-false 2122 (length f) (a .1) in
+    let n = digits-length f in
+    rw (
+      ne-eqb (length (digitsOf f)) 0 (λ e. some (omega arith)),
+      ne-eqb (length (digitsOf f) % 2) 1 (λ e. omega arith),
+      le-ltb 4244 (length (digitsOf f)) (omega arith),
+      digits-all f b,
+    )
+
+pub written-reads : WrittenReads
+unfolding lineOf
+written-reads f d e n b w room =
+    let g = good-frame f (length d) n w in
+    let back = bytes-of-digits f b in
+    let read : readOf (digitsOf f) (length e) ≡ Frame (kindOf f) (length f) =
+    read-frame (digitsOf f) (length e) (digits-good f b (g .size)) (rw back (g .kind)) (rw back (g .fit))
+    (rw back (le-ltb (length e) (length f) room))
+    ∙ ap (λ (x : List ℕ). Frame (kindOf x) (length x)) back in
+    record {
+      line = digitsOf f;
+      wrote = ap (λ (r : Wrote). lineAfter r f d) (write-line f (length d) (g .size) (g .kind) (g .fit) (g .room)) ∙ rw (digits-length f);
+      read = read;
+      frame = ap (λ (r : Read). frameAfter r (digitsOf f) e) read ∙ rw back;
+    }
+
+-- ── writing what was read ──
+
+bytes-good : (l : List ℕ) → Digits l → isWritable (bytesOf l) .fails ≡ false
+bytes-good l g =
+    let n = bytes-length l in
+    rw (ne-eqb (length (bytesOf l)) 0 (λ e. g .some (omega (arith, g .even))), le-ltb 2122 (length (bytesOf l)) (omega (arith, g .short)))
+
+pub read-writes : ReadWrites
+unfolding lineOf
+read-writes l d e k n h room =
+    let g = good-line l (length d) k n h in
+    let ds = digits l (g .hex) in
+    let back = digits-of-bytes l (ds .even) (ds .all) in
+    let size = bytes-length l in
+    let twice : 2 * length (bytesOf l) + 1 ≡ length l + 1 = omega (arith, ds .even) in
+    let wrote : wroteOf (bytesOf l) (length e) ≡ Line (length l + 1) =
+    write-line (bytesOf l) (length e) (bytes-good l ds) (g .kind) (g .fit) (le-ltb (length e) (2 * length (bytesOf l) + 1) (omega arith))
+    ∙ ap (λ (m : ℕ). Line m) twice in
+    record {
+      frame = bytesOf l;
+      read = ap (λ (r : Read). frameAfter r l d) (read-frame l (length d) (g .hex) (g .kind) (g .fit) (g .room));
+      wrote = wrote;
+      line = ap (λ (r : Wrote). lineAfter r (bytesOf l) e) wrote ∙ rw back;
+    }
+
+-- ── one line for each frame ──
+pub one-line : OneLine
+one-line l m d e k n k′ n′ h i same =
+    let p = digits l (good-line l (length d) k n h .hex) in
+    let q = digits m (good-line m (length e) k′ n′ i .hex) in
+    sym (digits-of-bytes l (p .even) (p .all)) ∙ ap digitsOf same ∙ digits-of-bytes m (q .even) (q .all)

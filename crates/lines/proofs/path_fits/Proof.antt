@@ -1,0 +1,38 @@
+-- The three tests of a path, whichever fails.
+use mathlib.Core.Path.{_≡_}
+use Prim.Native.Nat.{_+_, _*_, _/_, _^_}
+use native.Mathlib.Omega.{arith}
+use borrow.Author.Tests.{eq-eqb, ne-eqb, lt-leb, le-leb}
+use lib.Dec.{eqb}
+use Rattle.seqs.specs.Choose.{both-no}
+use Rattle.lines.specs.Work.{fitting}
+use borrow.Author.Needs.{needs}
+use Rattle.lines.proofs.path_fits.Statement.{statement}
+use Rattle.lines.proofs.path_fits.Tie as tie
+
+returns : tie.Need-returns
+unfolding fitting
+returns c =
+    let a = c .before .args in
+    simp (lt-leb _ _ (c .if1 .taken), both-no)
+
+mul-if2 : tie.Need-mul-if2
+mul-if2 c = search needs
+
+add-if2 : tie.Need-add-if2
+add-if2 c = search needs
+
+returns-2 : tie.Need-returns-2
+unfolding fitting
+returns-2 c = simp (ne-eqb _ _ (c .if2 .taken))
+
+sides-fit-requires : tie.Need-sides-fit-requires
+sides-fit-requires c κs = search needs
+
+returns-3 : tie.Need-returns-3
+unfolding fitting
+returns-3 c = simp (le-leb _ _ (c .before .before .if1 .left), eq-eqb _ _ (c .before .if2 .left), c .sides-fit .ensures)
+
+pub path-fits-spec : {M : Type 1} → statement M
+path-fits-spec =
+    tie.close (tie.spec returns mul-if2 add-if2 returns-2 sides-fit-requires returns-3)

@@ -1,0 +1,3 @@
+pub mod ByHand
+pub mod Encoding
+pub mod Frames

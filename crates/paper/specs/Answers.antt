@@ -1,0 +1,132 @@
+-- Document 01, the column "answers" of its table of kinds: the reply, the new registers, the strings that the
+-- answer forms, and what the line does beyond its reply ("Replay").
+use mathlib.Core.Bool.{Bool, true, false}
+use mathlib.Core.List.{List, [], _∷_, _++_}
+use Prim.Native.Nat.{ℕ, _+_}
+use lib.Dec.{eqb}
+use Rattle.seqs.specs.Choose.{pick}
+use Rattle.seqs.specs.Bytes.{be64}
+use Rattle.paper.specs.declared.Record.{Record}
+use Rattle.paper.specs.declared.Registers.{Registers}
+use Rattle.paper.specs.declared.Finding.{Finding}
+use Rattle.paper.specs.declared.Finding.the-variants.{Recorded, Listed, Gap}
+use Rattle.paper.specs.Strings.{Dig, nought, Memo, u1, v1, u2, ei, Str, leaf, memo, nums, numbers, spread, blank, parentForms, digest, H, foldUp, foldForms}
+use Rattle.paper.specs.Requests.{Request, path, witness, join, pair, raise, swap, first, place, turn, chain, adopt, setTo, clear, ask, askNone, unlock}
+use Rattle.paper.specs.Refusals.{nextRecord, clearedRecord}
+
+-- ── what a line does beyond its reply ──
+
+-- what an issued memorandum stands for: "first adds an empty item; place removes one; swap does nothing; turn
+-- does the reverse of what its memorandum stands for; chain does both in order"
+pub data Change : Type 0 where
+  nothing : Change
+  adds : (A : ℕ) → Change
+  removes : (A : ℕ) → Change
+  reverses : (m : Dig) → Change
+  both : (m1 m2 : Dig) → Change
+
+-- nothing; "a line issues the memorandum its reply lists"; adopt does what its memorandum stands for; "set and
+-- clear change one record"
+pub data Effect : Type 0 where
+  none′ : Effect
+  issues : Memo → Change → Effect
+  adopts : (m : Dig) → Effect
+  changes : (A : ℕ) → Record → Effect
+
+-- ── findings ──
+
+-- "exactly one of three findings": A with its record, listed with none (q = A), or q in the gap
+unfoldable pub findingOf : (q A A′ : ℕ) → Record → Finding
+findingOf q A A′ r =
+    pick (eqb q A)
+    (pick (blank r) (Listed (record { 0 = A })) (Recorded (record { 0 = A }) r))
+    (Gap (record { 0 = A }) (record { 0 = A′ }))
+
+-- "the first number one byte: 1, A, record; 2, A; 3, A, A'"
+abbrev pub findingBytes : Finding → List ℕ
+findingBytes (Recorded A r) = 1 ∷ spread (nums (A .0 ∷ numbers r))
+findingBytes (Listed A) = 2 ∷ spread (nums (A .0 ∷ []))
+findingBytes (Gap A A′) = 3 ∷ spread (nums (A .0 ∷ A′ .0 ∷ []))
+
+-- ── registers ──
+
+-- another root; another root and the counter raised; the secret handed in
+abbrev pub rooted : Registers → Dig → Registers
+rooted s y = record { root = y; counter = s .counter; secret = s .secret; opened = s .opened }
+
+abbrev pub raised : Registers → Dig → Registers
+raised s y = record { root = y; counter = record { 0 = s .counter .0 + 1 }; secret = s .secret; opened = s .opened }
+
+abbrev pub unlocked : Registers → Dig → Registers
+unlocked s k = record { root = s .root; counter = s .counter; secret = k; opened = true }
+
+-- ── answers ──
+pub record Answer : Type 0 where
+  pub lists : List ℕ
+  pub after : Registers
+  pub forms : List Str
+  pub effect : Effect
+
+abbrev pub kindByte : Request → ℕ
+kindByte (path x x′ sides l) = 0x01
+kindByte (witness x y m) = 0x02
+kindByte (join x y x′ y′ m1 z z′ m2) = 0x03
+kindByte (pair x1 y x1′ y′ m1 x2 z x2′ z′ m2) = 0x04
+kindByte (raise x1 x2 y x1′ x2′ y′ m1 z z′ m2) = 0x05
+kindByte (swap x1 x2 y y′ m) = 0x06
+kindByte (first A) = 0x07
+kindByte (place A A′ B′ ω y y′ m) = 0x08
+kindByte (turn x y m) = 0x09
+kindByte (chain x y m1 z m2) = 0x0a
+kindByte (adopt y y′ m) = 0x0b
+kindByte (setTo A A′ old v2 v3 v4 y y′ m) = 0x0c
+kindByte (clear A A′ old y y′ m) = 0x0d
+kindByte (ask q A A′ r y m) = 0x0e
+kindByte (askNone q) = 0x0f
+kindByte (unlock k) = 0x10
+
+module _ (D : List ℕ → Dig) where
+  -- an answer that lists some digests and then the memorandum that it issues
+  abbrev pub issue : Registers → (shown : List ℕ) (before : List Str) → Memo → Change → Answer
+  issue s shown before t c =
+      record {
+        lists = shown ++ digest D (memo t (s .secret));
+        after = s;
+        forms = memo t (s .secret) ∷ before;
+        effect = issues t c;
+      }
+
+  abbrev pub answer : Registers → Request → Answer
+  answer s (path x x′ sides l) =
+      let y = foldUp D x sides l in
+      let y′ = foldUp D x′ sides l in
+      issue s (y ++ y′) (foldForms D x′ sides l ++ foldForms D x sides l) (u1 x y x′ y′) nothing
+  answer s (witness x y m) = issue s [] [] (v1 x y) nothing
+  answer s (join x y x′ y′ m1 z z′ m2) = issue s [] [] (u1 x z x′ z′) nothing
+  answer s (pair x1 y x1′ y′ m1 x2 z x2′ z′ m2) =
+      issue s [] (parentForms y′ z′ ++ parentForms y z) (u2 x1 x2 (H D y z) x1′ x2′ (H D y′ z′)) nothing
+  answer s (raise x1 x2 y x1′ x2′ y′ m1 z z′ m2) = issue s [] [] (u2 x1 x2 z x1′ x2′ z′) nothing
+  answer s (swap x1 x2 y y′ m) = issue s [] [] (ei y y′) nothing
+  answer s (first A) = issue s [] (leaf A A nought ∷ []) (ei nought (digest D (leaf A A nought))) (adds A)
+  answer s (place A A′ B′ ω y y′ m) = issue s [] [] (ei y y′) (removes A′)
+  answer s (turn x y m) = issue s [] [] (ei y x) (reverses m)
+  answer s (chain x y m1 z m2) = issue s [] [] (ei x z) (both m1 m2)
+  answer s (adopt y y′ m) = record { lists = y′; after = rooted s y′; forms = []; effect = adopts m }
+  answer s (setTo A A′ old v2 v3 v4 y y′ m) =
+      record {
+        lists = y′ ++ be64 (s .counter .0 + 1);
+        after = raised s y′;
+        forms = [];
+        effect = changes A (nextRecord s v2 v3 v4);
+      }
+  answer s (clear A A′ old y y′ m) =
+      record {
+        lists = y′ ++ be64 (s .counter .0 + 1);
+        after = raised s y′;
+        forms = [];
+        effect = changes A clearedRecord;
+      }
+  answer s (ask q A A′ r y m) =
+      record { lists = findingBytes (findingOf q A A′ r); after = s; forms = []; effect = none′ }
+  answer s (askNone q) = record { lists = be64 q; after = s; forms = []; effect = none′ }
+  answer s (unlock k) = record { lists = []; after = unlocked s k; forms = []; effect = none′ }

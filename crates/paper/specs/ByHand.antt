@@ -1,0 +1,141 @@
+-- Document 01, "Numbers to check by hand": its starred numbers and some more as one table under one statement,
+-- `ByHand`, which `proofs/ByHand` shows from the definitions.
+use mathlib.Core.Bool.{Bool, true, false}
+use mathlib.Core.Path.{_≡_}
+use mathlib.Core.List.{List, [], _∷_, _++_}
+use Prim.Native.Nat.{ℕ, _+_, _*_}
+use lib.ListN.{length, getD, replicate}
+use Rattle.sha256.specs.Padding.{blocks}
+use Rattle.hex.specs.Hex.{digitsOf}
+use Rattle.paper.specs.declared.Record.{Record}
+use Rattle.paper.specs.declared.Registers.{Registers}
+use Rattle.paper.specs.Strings.{Dig, nought, Str, leaf, node, entry, memo, u1, v1, u2, ei, lengthOf, malformed, inGap, recordHash, H}
+use Rattle.paper.specs.Requests.{kindOf, fits}
+use Rattle.paper.specs.Refusals.{roomFor, replyRoom, isHex}
+use Rattle.paper.specs.Module.{answerTo}
+
+abbrev four : (revision mass offset rigging : ℕ) → Record
+four a b c d =
+    record {
+      revision = record { 0 = a };
+      mass = record { 0 = b };
+      offset = record { 0 = c };
+      rigging = record { 0 = d };
+    }
+
+-- a row: what is looked at, and what 01 says of it
+pub data Row : Type 0 where
+  gap : (A A′ q : ℕ) → (lies : Bool) → Row
+  parent : (u v : Dig) → (above : Dig) → Row
+  hash : Record → Dig → Row
+  bad : Record → (is : Bool) → Row
+  count : (bytes : ℕ) → (many : ℕ) → Row
+  bytes : Str → (long : ℕ) → Row
+  pathCost : (levels : ℕ) → (many : ℕ) → Row
+  space : (room : ℕ) → (short : Bool) → Row
+
+-- two folds of a path whose every level forms a node, and its U1
+abbrev pathBlocks : ℕ → ℕ
+pathBlocks n = 2 * n * blocks 65 + blocks 161
+
+abbrev pub Says : (D : List ℕ → Dig) → Row → Type 0
+Says D (gap A A′ q lies) = inGap q A A′ ≡ lies
+Says D (parent u v w) = H D u v ≡ w
+Says D (hash r d) = recordHash D r ≡ d
+Says D (bad r is) = malformed r ≡ is
+Says D (count n k) = blocks n ≡ k
+Says D (bytes s n) = lengthOf s ≡ n
+Says D (pathCost n k) = pathBlocks n ≡ k
+Says D (space n short) = roomFor replyRoom n .fails ≡ short
+
+-- the table, for any u
+abbrev pub table : (u : Dig) → List Row
+table u =
+    -- "Gap 432, 562 (001): 500 yes*, 432 no*, 562 no*."
+    gap 432 562 500 true
+    ∷ gap 432 562 432 false
+    ∷ gap 432 562 562 false
+    -- "Gap 796, 241: 900 yes*, 100 yes*, 500 no*."
+    ∷ gap 796 241 900 true
+    ∷ gap 796 241 100 true
+    ∷ gap 796 241 500 false
+    -- "Gap 241, 241: 5 yes*, 241 no*."
+    ∷ gap 241 241 5 true
+    ∷ gap 241 241 241 false
+    -- "H(0,0) is 0*; H(u,0) is u*."
+    ∷ parent nought nought nought
+    ∷ parent u nought u
+    -- "Record [0,0,0,0] hashes to 0*; [0,5,0,0] is malformed*."
+    ∷ hash (four 0 0 0 0) nought
+    ∷ bad (four 0 5 0 0) true
+    -- "Blocks: 55 bytes 1*, 56 bytes 2*, 65 bytes 2, 161 bytes 3, 225 bytes 4."
+    ∷ count 55 1
+    ∷ count 56 2
+    ∷ count 65 2
+    ∷ count 161 3
+    ∷ count 225 4
+    -- "A path of 64 may cost 259"
+    ∷ pathCost 64 259
+    -- "Replies of 194 bytes of space get 15, 195 do."
+    ∷ space 194 true
+    ∷ space 195 false
+    -- the column "length" of the table of strings
+    ∷ bytes (leaf 0 0 u) 49
+    ∷ bytes (node u u) 65
+    ∷ bytes (entry (four 0 0 0 0)) 33
+    ∷ bytes (memo (u1 u u u u) u) 161
+    ∷ bytes (memo (v1 u u) u) 97
+    ∷ bytes (memo (u2 u u u u u u) u) 225
+    ∷ bytes (memo (ei u u) u) 97
+    ∷ []
+
+abbrev pub EveryRow : (D : List ℕ → Dig) → List Row → Type 0
+EveryRow D [] = Unit {0}
+EveryRow D (r ∷ l) = Says D r × EveryRow D l
+
+-- "n = 65 in a frame of 2,122 bytes gets 3, with all its 65 siblings the line is too long and gets 1"
+pub record EdgesOf65 : Type 0 where
+  pub frame : (f : List ℕ) → kindOf f ≡ 1 → length f ≡ 2122 → getD f 65 0 ≡ 65 → fits f ≡ false
+  pub line : (l : List ℕ) → length l ≡ 2 * (74 + 32 * 65) → isHex l .fails ≡ true
+
+-- "Whole run, where S is 64 digits of alternating 0 and 1 (0101..01) and Z is 64 digits 0."
+abbrev pub unopened : Registers
+unopened = record { root = nought; counter = record { 0 = 0 }; secret = nought; opened = false }
+
+-- a line in and the line out for it, without its 0A
+pub data Turn : Type 0 where
+  turn : (line reply : List ℕ) → Turn
+
+abbrev S : List ℕ
+S = replicate 32 0x01
+
+abbrev five : List ℕ
+five = 0 ∷ 0 ∷ 0 ∷ 0 ∷ 0 ∷ 0 ∷ 0 ∷ 5 ∷ []
+
+abbrev pub wholeRun : List Turn
+wholeRun =
+    -- `7`, `0001`; `ff`, `0002`; `0f`, `0003`
+    turn (0x37 ∷ []) (digitsOf (0x00 ∷ 0x01 ∷ []))
+    ∷ turn (digitsOf (0xff ∷ [])) (digitsOf (0x00 ∷ 0x02 ∷ []))
+    ∷ turn (digitsOf (0x0f ∷ [])) (digitsOf (0x00 ∷ 0x03 ∷ []))
+    -- `0f0000000000000005`, `000d`
+    ∷ turn (digitsOf (0x0f ∷ five)) (digitsOf (0x00 ∷ 0x0d ∷ []))
+    -- `10`Z, `000c`; `10`S, `90`; `10`Z, `000e`
+    ∷ turn (digitsOf (0x10 ∷ nought)) (digitsOf (0x00 ∷ 0x0c ∷ []))
+    ∷ turn (digitsOf (0x10 ∷ S)) (digitsOf (0x90 ∷ []))
+    ∷ turn (digitsOf (0x10 ∷ nought)) (digitsOf (0x00 ∷ 0x0e ∷ []))
+    -- `0f0000000000000005`, `8f0000000000000005`; `070000000000000000`, `0004`
+    ∷ turn (digitsOf (0x0f ∷ five)) (digitsOf (0x8f ∷ five))
+    ∷ turn (digitsOf (0x07 ∷ replicate 8 0)) (digitsOf (0x00 ∷ 0x04 ∷ []))
+    ∷ []
+
+-- each line gets its reply, from some registers on, with 195 bytes of space
+abbrev pub Runs : (D : List ℕ → Dig) → Registers → List Turn → Type 0
+Runs D s [] = Unit {0}
+Runs D s (turn line reply ∷ l) =
+    (answerTo D s line replyRoom .reply ≡ reply ++ (0x0a ∷ [])) × Runs D (answerTo D s line replyRoom .after) l
+
+pub record ByHand : Type 1 where
+  pub rows : (D : List ℕ → Dig) (u : Dig) → EveryRow D (table u)
+  pub edges : EdgesOf65
+  pub run : (D : List ℕ → Dig) → Runs D unopened wholeRun

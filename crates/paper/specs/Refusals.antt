@@ -1,0 +1,223 @@
+-- Document 01, "Refusals by number, and their order", and the column "needs" of its table of kinds.
+use mathlib.Core.Bool.{Bool, true, false}
+use mathlib.Core.List.{List, [], _∷_, _++_}
+use Prim.Native.Nat.{ℕ, _+_, _-_, _*_, _%_, _^_}
+use lib.Dec.{eqb, ltb}
+use lib.ListN.{length}
+use Rattle.seqs.specs.Choose.{pick, both, either, opposite}
+use Rattle.seqs.specs.Bytes.{same, allZero}
+use Rattle.hex.specs.Hex.{allDigits}
+use Rattle.paper.specs.declared.Record.{Record}
+use Rattle.paper.specs.declared.Registers.{Registers}
+use Rattle.paper.specs.Strings.{Dig, nought, Memo, u1, v1, u2, ei, Str, leaf, memo, malformed, blank, recordForms, inGap, digest, recordHash}
+use Rattle.paper.specs.Requests.{Request, path, witness, join, pair, raise, swap, first, place, turn, chain, adopt, setTo, clear, ask, askNone, unlock, known, fits, mostSiblings}
+
+-- A check: its number in 01's table, whether it fails ("given when"), and the strings that it forms.
+pub record Check : Type 0 where
+  pub number : ℕ
+  pub fails : Bool
+  pub forms : List Str
+
+-- "Checked in this order"
+abbrev pub order : List ℕ
+order = 15 ∷ 1 ∷ 2 ∷ 3 ∷ 13 ∷ 14 ∷ 12 ∷ 4 ∷ 5 ∷ 6 ∷ 11 ∷ 7 ∷ 8 ∷ 9 ∷ 10 ∷ []
+
+-- ── the table, row by row ──
+
+-- "The longest frame has 2,122 bytes, so 4,244 digits."
+abbrev pub longestFrame : ℕ
+longestFrame = 74 + 32 * mostSiblings
+
+-- 15: the space is shorter than what has to fit it; for the module, "reply space under 195 bytes"
+abbrev pub roomFor : (need space : ℕ) → Check
+roomFor need space = record { number = 15; fails = ltb space need; forms = [] }
+
+abbrev pub replyRoom : ℕ
+replyRoom = 195
+
+-- 1: "line empty, odd, too long, or with another byte than 0-9, a-f"
+abbrev pub isHex : List ℕ → Check
+isHex line =
+    record {
+      number = 1;
+      fails =
+          either (eqb (length line) 0)
+          (either (eqb (length line % 2) 1)
+          (either (ltb (2 * longestFrame) (length line)) (opposite (allDigits line))));
+      forms = [];
+    }
+
+-- 2: "kind not in the table"
+abbrev pub isKind : ℕ → Check
+isKind k = record { number = 2; fails = opposite (known k); forms = [] }
+
+-- 3: "wrong length, n above 64, or a side bit at n or above"
+abbrev pub isFrame : List ℕ → Check
+isFrame f = record { number = 3; fails = opposite (fits f); forms = [] }
+
+-- 13: "not open, kind other than 10"
+abbrev pub isOpen : Registers → Check
+isOpen s = record { number = 13; fails = opposite (s .opened); forms = [] }
+
+-- 14: "already open, kind 10"
+abbrev pub isShut : Registers → Check
+isShut s = record { number = 14; fails = s .opened; forms = [] }
+
+-- 12: "secret all zero"
+abbrev pub isSecret : Dig → Check
+isSecret k = record { number = 12; fails = allZero k; forms = [] }
+
+-- 4: "q, A, A' or B' is 0"
+abbrev pub notZero : ℕ → Check
+notZero n = record { number = 4; fails = eqb n 0; forms = [] }
+
+-- 5: "malformed record"
+abbrev pub wellFormed : Record → Check
+wellFormed r = record { number = 5; fails = malformed r; forms = [] }
+
+-- 6: "place: A' not in the gap; ask: q neither A nor in the gap"
+abbrev pub inTheGap : (q A A′ : ℕ) → Check
+inTheGap q A A′ = record { number = 6; fails = opposite (inGap q A A′); forms = [] }
+
+abbrev pub isOrInTheGap : (q A A′ : ℕ) → Check
+isOrInTheGap q A A′ = record { number = 6; fails = opposite (either (eqb q A) (inGap q A A′)); forms = [] }
+
+-- 11: "clear of an empty record"
+abbrev pub isRecorded : Record → Check
+isRecorded r = record { number = 11; fails = blank r; forms = [] }
+
+-- 7: "set or clear with c at 2^64 - 1"
+abbrev pub top : ℕ
+top = 2 ^ 64 - 1
+
+abbrev pub belowTop : Registers → Check
+belowTop s = record { number = 7; fails = eqb (s .counter .0) top; forms = [] }
+
+-- 10: "y, or for 0f zero, isn't the root: stale"
+abbrev pub isRoot : Registers → Dig → Check
+isRoot s y = record { number = 10; fails = opposite (same y (s .root)); forms = [] }
+
+-- "The new record is [c+1, v2, v3, v4], or empty for clear."
+abbrev pub nextRecord : Registers → (v2 v3 v4 : ℕ) → Record
+nextRecord s v2 v3 v4 =
+    record {
+      revision = record { 0 = s .counter .0 + 1 };
+      mass = record { 0 = v2 };
+      offset = record { 0 = v3 };
+      rigging = record { 0 = v4 };
+    }
+
+abbrev pub clearedRecord : Record
+clearedRecord =
+    record {
+      revision = record { 0 = 0 };
+      mass = record { 0 = 0 };
+      offset = record { 0 = 0 };
+      rigging = record { 0 = 0 };
+    }
+
+-- Place: "x1 is leaf(A,A',ω), x1' is leaf(A,B',ω), x2 is leaf(A',B',0), x2' is 0"; the two orders
+abbrev pub placeForms : (A A′ B′ : ℕ) (ω : Dig) → List Str
+placeForms A A′ B′ ω = leaf A A′ ω ∷ leaf A B′ ω ∷ leaf A′ B′ nought ∷ []
+
+module _ (D : List ℕ → Dig) where
+  -- What a memorandum may say, in the order tried: whether none has the digest shown, and the strings formed
+  abbrev pub noneFits : (secret : Dig) → List Memo → (m : Dig) → Bool
+  noneFits k [] m = true
+  noneFits k (t ∷ l) m = pick (same (digest D (memo t k)) m) false (noneFits k l m)
+
+  abbrev pub tried : (secret : Dig) → List Memo → (m : Dig) → List Str
+  tried k [] m = []
+  tried k (t ∷ l) m = memo t k ∷ pick (same (digest D (memo t k)) m) [] (tried k l m)
+
+  -- 8 and 9: "first memorandum doesn't match", "second ..": with the strings formed for what it may say
+  abbrev pub first-memo : (s : Registers) (before : List Str) (says : List Memo) (m : Dig) → Check
+  first-memo s before says m =
+      record { number = 8; fails = noneFits (s .secret) says m; forms = before ++ tried (s .secret) says m }
+
+  abbrev pub second-memo : (s : Registers) (says : Memo) (m : Dig) → Check
+  second-memo s says m =
+      record { number = 9; fails = noneFits (s .secret) (says ∷ []) m; forms = tried (s .secret) (says ∷ []) m }
+
+  -- ── the column "needs" ──
+
+  -- "x is leaf(A,A',old hash), x' the leaf with the new hash"
+  abbrev pub leafOf : (A A′ : ℕ) → Record → Str
+  leafOf A A′ r = leaf A A′ (recordHash D r)
+
+  abbrev pub leafForms : (A A′ : ℕ) → Record → List Str
+  leafForms A A′ r = recordForms r ++ (leafOf A A′ r ∷ [])
+
+  abbrev pub changeForms : (A A′ : ℕ) (old new : Record) → List Str
+  changeForms A A′ old new = leafForms A A′ old ++ leafForms A A′ new
+
+  abbrev pub changeSays : (A A′ : ℕ) (old new : Record) (y y′ : Dig) → Memo
+  changeSays A A′ old new y y′ = u1 (digest D (leafOf A A′ old)) y (digest D (leafOf A A′ new)) y′
+
+  abbrev pub placeSays : (A A′ B′ : ℕ) (ω y y′ : Dig) → List Memo
+  placeSays A A′ B′ ω y y′ =
+      let x1 = digest D (leaf A A′ ω) in
+      let x1′ = digest D (leaf A B′ ω) in
+      let x2 = digest D (leaf A′ B′ nought) in
+      u2 x1 x2 y x1′ nought y′ ∷ u2 x2 x1 y nought x1′ y′ ∷ []
+
+  abbrev pub needs : Registers → Request → List Check
+  needs s (path x x′ sides l) = isOpen s ∷ []
+  needs s (witness x y m) = isOpen s ∷ first-memo s [] (u1 x y x y ∷ []) m ∷ []
+  needs s (join x y x′ y′ m1 z z′ m2) =
+      isOpen s ∷ first-memo s [] (u1 x y x′ y′ ∷ []) m1 ∷ second-memo s (u1 y z y′ z′) m2 ∷ []
+  needs s (pair x1 y x1′ y′ m1 x2 z x2′ z′ m2) =
+      isOpen s ∷ first-memo s [] (u1 x1 y x1′ y′ ∷ []) m1 ∷ second-memo s (u1 x2 z x2′ z′) m2 ∷ []
+  needs s (raise x1 x2 y x1′ x2′ y′ m1 z z′ m2) =
+      isOpen s ∷ first-memo s [] (u2 x1 x2 y x1′ x2′ y′ ∷ []) m1 ∷ second-memo s (u1 y z y′ z′) m2 ∷ []
+  needs s (swap x1 x2 y y′ m) = isOpen s ∷ first-memo s [] (u2 x1 x2 y x2 x1 y′ ∷ []) m ∷ []
+  needs s (first A) = isOpen s ∷ notZero A ∷ []
+  needs s (place A A′ B′ ω y y′ m) =
+      isOpen s ∷ notZero A ∷ notZero A′ ∷ notZero B′ ∷ inTheGap A′ A B′
+      ∷ first-memo s (placeForms A A′ B′ ω) (placeSays A A′ B′ ω y y′) m ∷ []
+  needs s (turn x y m) = isOpen s ∷ first-memo s [] (ei x y ∷ []) m ∷ []
+  needs s (chain x y m1 z m2) = isOpen s ∷ first-memo s [] (ei x y ∷ []) m1 ∷ second-memo s (ei y z) m2 ∷ []
+  needs s (adopt y y′ m) = isOpen s ∷ first-memo s [] (ei y y′ ∷ []) m ∷ isRoot s y ∷ []
+  needs s (setTo A A′ old v2 v3 v4 y y′ m) =
+      let new = nextRecord s v2 v3 v4 in
+      isOpen s ∷ notZero A ∷ notZero A′ ∷ wellFormed old ∷ belowTop s
+      ∷ first-memo s (changeForms A A′ old new) (changeSays A A′ old new y y′ ∷ []) m ∷ isRoot s y ∷ []
+  needs s (clear A A′ old y y′ m) =
+      isOpen s ∷ notZero A ∷ notZero A′ ∷ wellFormed old ∷ isRecorded old ∷ belowTop s
+      ∷ first-memo s (changeForms A A′ old clearedRecord) (changeSays A A′ old clearedRecord y y′ ∷ []) m ∷ isRoot s y ∷ []
+  needs s (ask q A A′ r y m) =
+      isOpen s ∷ notZero q ∷ notZero A ∷ notZero A′ ∷ wellFormed r ∷ isOrInTheGap q A A′
+      ∷ first-memo s (leafForms A A′ r) (v1 (digest D (leafOf A A′ r)) y ∷ []) m ∷ isRoot s y ∷ []
+  needs s (askNone q) = isOpen s ∷ notZero q ∷ isRoot s nought ∷ []
+  needs s (unlock k) = isShut s ∷ isSecret k ∷ []
+
+-- ── the verdict: the first number of an order that applies ──
+
+abbrev pub those : ℕ → List Check → List Check
+those n [] = []
+those n (c ∷ l) = pick (eqb (c .number) n) (c ∷ those n l) (those n l)
+
+abbrev pub anyFails : List Check → Bool
+anyFails [] = false
+anyFails (c ∷ l) = either (c .fails) (anyFails l)
+
+abbrev pub formsAll : List Check → List Str
+formsAll [] = []
+formsAll (c ∷ l) = formsAll l ++ c .forms
+
+-- a check of number n fails; the strings that the checks of number n form
+abbrev pub applies : ℕ → List Check → Bool
+applies n cs = anyFails (those n cs)
+
+abbrev pub formedAt : ℕ → List Check → List Str
+formedAt n cs = formsAll (those n cs)
+
+-- refused by a number, or passed; with the strings formed "in the order of the checks and no further than the
+-- check that refuses" (which strings, and how often: their order in the list says nothing)
+pub data Verdict : Type 0 where
+  refused : ℕ → List Str → Verdict
+  passed : List Str → Verdict
+
+abbrev pub judge : (numbers : List ℕ) → List Str → List Check → Verdict
+judge [] fs cs = passed fs
+judge (n ∷ ns) fs cs = pick (applies n cs) (refused n (formedAt n cs ++ fs)) (judge ns (formedAt n cs ++ fs) cs)

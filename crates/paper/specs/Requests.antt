@@ -1,0 +1,182 @@
+-- Document 01, "Lines": the table of kinds, what each carries, and a frame read as a request.
+use mathlib.Core.Bool.{Bool, true, false}
+use mathlib.Core.List.{List, [], _∷_, _++_}
+use Prim.Native.Nat.{ℕ, zero, suc, _+_, _-_, _*_, _/_, _^_}
+use lib.Dec.{eqb, leb}
+use lib.ListN.{length, getD, take, drop}
+use Rattle.seqs.specs.Choose.{both}
+use Rattle.seqs.specs.Bytes.{numberOf}
+use Rattle.paper.specs.declared.Record.{Record}
+use Rattle.paper.specs.Strings.{Dig}
+
+-- ── the column "kind": a request of each ──
+pub data Request : Type 0 where
+  path : (x x′ : Dig) (sides : ℕ) (siblings : List Dig) → Request
+  witness : (x y m : Dig) → Request
+  join : (x y x′ y′ m1 z z′ m2 : Dig) → Request
+  pair : (x1 y x1′ y′ m1 x2 z x2′ z′ m2 : Dig) → Request
+  raise : (x1 x2 y x1′ x2′ y′ m1 z z′ m2 : Dig) → Request
+  swap : (x1 x2 y y′ m : Dig) → Request
+  first : (A : ℕ) → Request
+  place : (A A′ B′ : ℕ) (ω y y′ m : Dig) → Request
+  turn : (x y m : Dig) → Request
+  chain : (x y m1 z m2 : Dig) → Request
+  adopt : (y y′ m : Dig) → Request
+  setTo : (A A′ : ℕ) (old : Record) (v2 v3 v4 : ℕ) (y y′ m : Dig) → Request
+  clear : (A A′ : ℕ) (old : Record) (y y′ m : Dig) → Request
+  ask : (q A A′ : ℕ) (r : Record) (y m : Dig) → Request
+  askNone : (q : ℕ) → Request
+  unlock : (secret : Dig) → Request
+
+-- ── the column "carries" ──
+
+-- what a frame carries behind its kind: a number, a digest, a record, or a path's n, sides and siblings
+pub data Carried : Type 0 where
+  aNumber : Carried
+  aDigest : Carried
+  aRecord : Carried
+  aPath : Carried
+
+abbrev four : List Carried
+four = aDigest ∷ aDigest ∷ aDigest ∷ aDigest ∷ []
+
+-- "n (1 byte), sides (8), n siblings"; "up to 64 siblings of 32 bytes each"
+abbrev pub mostSiblings : ℕ
+mostSiblings = 64
+
+abbrev pub countIn : List ℕ → ℕ
+countIn l = getD l 0 0
+
+abbrev pub sidesIn : List ℕ → ℕ
+sidesIn l = numberOf (take 8 (drop 1 l))
+
+abbrev pub digestsIn : (n : ℕ) → List ℕ → List Dig
+digestsIn zero l = []
+digestsIn (suc n) l = take 32 l ∷ digestsIn n (drop 32 l)
+
+abbrev pub siblingsIn : List ℕ → List Dig
+siblingsIn l = digestsIn (countIn l) (drop 9 l)
+
+abbrev pub recordIn : List ℕ → Record
+recordIn l =
+    record {
+      revision = record { 0 = numberOf (take 8 l) };
+      mass = record { 0 = numberOf (take 8 (drop 8 l)) };
+      offset = record { 0 = numberOf (take 8 (drop 16 l)) };
+      rigging = record { 0 = numberOf (take 8 (drop 24 l)) };
+    }
+
+-- a row: what the kind carries, and the request that its parts make, part i being the i-th thing carried
+pub record Kind : Type 0 where
+  pub carries : List Carried
+  pub reads : (ℕ → List ℕ) → Request
+
+-- the table, from kind 01 on
+unfoldable pub kinds : List Kind
+kinds =
+    -- 01 path: x, x', n (1 byte), sides (8), n siblings
+    record { carries = aDigest ∷ aDigest ∷ aPath ∷ []; reads = λ p. path (p 0) (p 1) (sidesIn (p 2)) (siblingsIn (p 2)) }
+    -- 02 witness: x, y, m
+    ∷ record { carries = aDigest ∷ aDigest ∷ aDigest ∷ []; reads = λ p. witness (p 0) (p 1) (p 2) }
+    -- 03 join: x, y, x', y', m1, z, z', m2
+    ∷ record { carries = four ++ four; reads = λ p. join (p 0) (p 1) (p 2) (p 3) (p 4) (p 5) (p 6) (p 7) }
+    -- 04 pair: x1, y, x1', y', m1, x2, z, x2', z', m2
+    ∷ record {
+      carries = aDigest ∷ aDigest ∷ four ++ four;
+      reads = λ p. pair (p 0) (p 1) (p 2) (p 3) (p 4) (p 5) (p 6) (p 7) (p 8) (p 9);
+    }
+    -- 05 raise: x1, x2, y, x1', x2', y', m1, z, z', m2
+    ∷ record {
+      carries = aDigest ∷ aDigest ∷ four ++ four;
+      reads = λ p. raise (p 0) (p 1) (p 2) (p 3) (p 4) (p 5) (p 6) (p 7) (p 8) (p 9);
+    }
+    -- 06 swap: x1, x2, y, y', m
+    ∷ record { carries = aDigest ∷ four; reads = λ p. swap (p 0) (p 1) (p 2) (p 3) (p 4) }
+    -- 07 first: A
+    ∷ record { carries = aNumber ∷ []; reads = λ p. first (numberOf (p 0)) }
+    -- 08 place: A, A', B', ω, y, y', m
+    ∷ record {
+      carries = aNumber ∷ aNumber ∷ aNumber ∷ four;
+      reads = λ p. place (numberOf (p 0)) (numberOf (p 1)) (numberOf (p 2)) (p 3) (p 4) (p 5) (p 6);
+    }
+    -- 09 turn: x, y, m
+    ∷ record { carries = aDigest ∷ aDigest ∷ aDigest ∷ []; reads = λ p. turn (p 0) (p 1) (p 2) }
+    -- 0a chain: x, y, m1, z, m2
+    ∷ record { carries = aDigest ∷ four; reads = λ p. chain (p 0) (p 1) (p 2) (p 3) (p 4) }
+    -- 0b adopt: y, y', m
+    ∷ record { carries = aDigest ∷ aDigest ∷ aDigest ∷ []; reads = λ p. adopt (p 0) (p 1) (p 2) }
+    -- 0c set: A, A', old record, v2, v3, v4, y, y', m
+    ∷ record {
+      carries = aNumber ∷ aNumber ∷ aRecord ∷ aNumber ∷ aNumber ∷ aNumber ∷ aDigest ∷ aDigest ∷ aDigest ∷ [];
+      reads =
+          λ p.
+          setTo (numberOf (p 0)) (numberOf (p 1)) (recordIn (p 2)) (numberOf (p 3)) (numberOf (p 4)) (numberOf (p 5))
+          (p 6) (p 7) (p 8);
+    }
+    -- 0d clear: A, A', old record, y, y', m
+    ∷ record {
+      carries = aNumber ∷ aNumber ∷ aRecord ∷ aDigest ∷ aDigest ∷ aDigest ∷ [];
+      reads = λ p. clear (numberOf (p 0)) (numberOf (p 1)) (recordIn (p 2)) (p 3) (p 4) (p 5);
+    }
+    -- 0e ask: q, A, A', record, y, m
+    ∷ record {
+      carries = aNumber ∷ aNumber ∷ aNumber ∷ aRecord ∷ aDigest ∷ aDigest ∷ [];
+      reads = λ p. ask (numberOf (p 0)) (numberOf (p 1)) (numberOf (p 2)) (recordIn (p 3)) (p 4) (p 5);
+    }
+    -- 0f ask of none: q
+    ∷ record { carries = aNumber ∷ []; reads = λ p. askNone (numberOf (p 0)) }
+    -- 10 open: secret
+    ∷ record { carries = aDigest ∷ []; reads = λ p. unlock (p 0) }
+    ∷ []
+
+-- ── a frame ──
+
+-- "A frame is a kind byte and fields."
+abbrev pub kindOf : List ℕ → ℕ
+kindOf f = getD f 0 0
+
+-- the kind is in the table
+unfoldable pub known : ℕ → Bool
+known k = both (leb 1 k) (leb k (length kinds))
+
+-- a kind that is not in the table has no row; what stands here for it is never looked at, since 2 comes first
+abbrev pub rowOf : ℕ → Kind
+rowOf k = getD kinds (k - 1) (record { carries = []; reads = λ p. unlock [] })
+
+-- how many of the bytes l a carried thing takes, those of a path by its n
+abbrev pub takes : Carried → List ℕ → ℕ
+takes aNumber l = 8
+takes aDigest l = 32
+takes aRecord l = 32
+takes aPath l = 9 + 32 * countIn l
+
+abbrev pub takesAll : List Carried → List ℕ → ℕ
+takesAll [] l = 0
+takesAll (c ∷ cs) l = takes c l + takesAll cs (drop (takes c l) l)
+
+-- the bytes of the i-th thing carried
+abbrev pub part : List Carried → List ℕ → ℕ → List ℕ
+part [] l i = []
+part (c ∷ cs) l zero = take (takes c l) l
+part (c ∷ cs) l (suc i) = part cs (drop (takes c l) l) i
+
+-- "n above 64, or a side bit at n or above": a path may not be so
+abbrev pub sound : Carried → List ℕ → Bool
+sound aNumber l = true
+sound aDigest l = true
+sound aRecord l = true
+sound aPath l = both (leb (countIn l) mostSiblings) (eqb (sidesIn l / 2 ^ countIn l) 0)
+
+abbrev pub soundAll : List Carried → List ℕ → Bool
+soundAll [] l = true
+soundAll (c ∷ cs) l = both (sound c l) (soundAll cs (drop (takes c l) l))
+
+-- a frame has its kind's length and a sound path
+unfoldable pub fits : List ℕ → Bool
+fits f =
+    let carried = rowOf (kindOf f) .carries in
+    both (eqb (length f) (1 + takesAll carried (drop 1 f))) (soundAll carried (drop 1 f))
+
+-- the request that a frame is
+unfoldable pub requestOf : List ℕ → Request
+requestOf f = let row = rowOf (kindOf f) in row .reads (part (row .carries) (drop 1 f))
