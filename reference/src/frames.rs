@@ -94,7 +94,8 @@ pub fn unhex(line: &[u8]) -> Result<Vec<u8>, u8> {
     line.chunks_exact(2).map(|pair| Ok(value(pair[0])? << 4 | value(pair[1])?)).collect()
 }
 
-fn value(digit: u8) -> Result<u8, u8> {
+/// The value of a digit, or refusal 1.
+pub(crate) fn value(digit: u8) -> Result<u8, u8> {
     match digit {
         b'0'..=b'9' => Ok(digit - b'0'),
         b'a'..=b'f' => Ok(digit - b'a' + 10),

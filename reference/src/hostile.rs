@@ -416,7 +416,7 @@ pub fn random_frame(kind: u8, random: &mut Random) -> Vec<u8> {
 }
 
 /// All bits below `levels`, which is at most 64.
-fn below_bit(levels: usize) -> u64 {
+pub(crate) fn below_bit(levels: usize) -> u64 {
     if levels == 64 {
         u64::MAX
     } else {
@@ -425,7 +425,7 @@ fn below_bit(levels: usize) -> u64 {
 }
 
 /// A path frame with its n, its siblings and its sides given apart.
-fn path(n: usize, siblings: usize, sides: u64, random: &mut Random) -> Vec<u8> {
+pub(crate) fn path(n: usize, siblings: usize, sides: u64, random: &mut Random) -> Vec<u8> {
     let mut frame = vec![0x01];
     frame.extend(random.digest());
     frame.extend(random.digest());
@@ -464,13 +464,13 @@ fn damaged_line(trick: Trick, random: &mut Random) -> Option<Vec<u8>> {
     })
 }
 
-fn digits_of_length(length: usize, random: &mut Random) -> Vec<u8> {
+pub(crate) fn digits_of_length(length: usize, random: &mut Random) -> Vec<u8> {
     let mut line = digits(&random.bytes(length / 2 + 1));
     line.truncate(length);
     line
 }
 
-fn with_byte(mut line: Vec<u8>, random: &mut Random, byte: u8) -> Vec<u8> {
+pub(crate) fn with_byte(mut line: Vec<u8>, random: &mut Random, byte: u8) -> Vec<u8> {
     let at = random.below(line.len());
     line[at] = byte;
     line
@@ -512,7 +512,7 @@ fn damaged_frame(trick: Trick, random: &mut Random) -> Option<Vec<u8>> {
     })
 }
 
-fn with_kind(mut frame: Vec<u8>, kind: u8) -> Vec<u8> {
+pub(crate) fn with_kind(mut frame: Vec<u8>, kind: u8) -> Vec<u8> {
     frame[0] = kind;
     frame
 }

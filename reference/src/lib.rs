@@ -10,6 +10,7 @@ pub mod frames;
 pub mod hostile;
 pub mod keeper;
 pub mod module;
+pub mod probes;
 pub mod program;
 pub mod random;
 pub mod replay;

@@ -13,10 +13,20 @@ use std::io::{self, BufRead, BufReader, Read, Write};
 const KEPT: usize = 2 * LONGEST_FRAME + 1;
 
 /// Answers every line of `input` on `output`, from an unopened module. With
-/// `trace`, the refusal number and the block count follow each reply. Replies are
-/// out before it waits for more input.
-pub fn run(input: impl Read, mut output: impl Write, trace: bool) -> io::Result<()> {
+/// `trace`, the refusal number and the block count follow each reply.
+pub fn run(input: impl Read, output: impl Write, trace: bool) -> io::Result<()> {
     let mut registers = Registers::default();
+    serve(input, output, KEPT, &mut |line| reply(&answer(&mut registers, line, REPLY_SPACE), trace))
+}
+
+/// Writes what `reply` gives for each line of `input`, of which the first `kept`
+/// bytes are shown to it. Replies are out before it waits for more input.
+pub fn serve(
+    input: impl Read,
+    mut output: impl Write,
+    kept: usize,
+    reply: &mut dyn FnMut(&[u8]) -> Vec<u8>,
+) -> io::Result<()> {
     let mut input = BufReader::new(input);
     let mut line = Vec::new();
     loop {
@@ -32,33 +42,33 @@ pub fn run(input: impl Read, mut output: impl Write, trace: bool) -> io::Result<
         }
         let end = chunk.iter().position(|byte| *byte == b'\n');
         let piece = &chunk[..end.unwrap_or(chunk.len())];
-        keep(&mut line, piece);
+        keep(&mut line, piece, kept);
         let used = piece.len() + usize::from(end.is_some());
         input.consume(used);
         if end.is_some() {
-            write_reply(&mut output, &answer(&mut registers, &line, REPLY_SPACE), trace)?;
+            output.write_all(&reply(&line))?;
             line.clear();
         }
     }
     if !line.is_empty() {
-        write_reply(&mut output, &answer(&mut registers, &line, REPLY_SPACE), trace)?;
+        output.write_all(&reply(&line))?;
     }
     output.flush()
 }
 
-/// Adds a piece to the line, but no more of it than is worth keeping.
-fn keep(line: &mut Vec<u8>, piece: &[u8]) {
-    let room = KEPT - line.len();
+/// Adds a piece to the line, but no more of it than is kept.
+fn keep(line: &mut Vec<u8>, piece: &[u8], kept: usize) {
+    let room = kept - line.len();
     line.extend_from_slice(&piece[..piece.len().min(room)]);
 }
 
-/// Writes the reply line; traced, it is `REPLY REFUSAL BLOCKS`, the refusal being
-/// 0 for an accepted line.
-fn write_reply(output: &mut impl Write, answer: &Answer, trace: bool) -> io::Result<()> {
-    if !trace {
-        return output.write_all(&answer.reply_line);
+/// The reply line; traced, it is `REPLY REFUSAL BLOCKS`, the refusal being 0 for
+/// an accepted line.
+fn reply(answer: &Answer, trace: bool) -> Vec<u8> {
+    let mut line = answer.reply_line.clone();
+    if trace {
+        line.pop();
+        line.extend(format!(" {} {}\n", answer.refusal.unwrap_or(0), answer.blocks).bytes());
     }
-    let reply = &answer.reply_line[..answer.reply_line.len() - 1];
-    output.write_all(reply)?;
-    writeln!(output, " {} {}", answer.refusal.unwrap_or(0), answer.blocks)
+    line
 }

@@ -1,5 +1,7 @@
-//! The three programs as they are run: `reference`, `sessions` and `vectors`.
+//! The five programs as they are run: `reference`, `sessions`, `vectors`, `probe` and
+//! `probes`.
 
+use reference::probes;
 use reference::sessions::generate;
 use std::io::{BufRead, BufReader, Write};
 use std::path::{Path, PathBuf};
@@ -8,6 +10,8 @@ use std::process::{Command, Output, Stdio};
 const REFERENCE: &str = env!("CARGO_BIN_EXE_reference");
 const SESSIONS: &str = env!("CARGO_BIN_EXE_sessions");
 const VECTORS: &str = env!("CARGO_BIN_EXE_vectors");
+const PROBE: &str = env!("CARGO_BIN_EXE_probe");
+const PROBES: &str = env!("CARGO_BIN_EXE_probes");
 
 /// Runs a program on some input and gives what it wrote. The input is written
 /// from another thread, for the program answers while it reads.
@@ -74,22 +78,17 @@ fn the_trace_shows_refusal_and_blocks() {
     assert_eq!(lines[2].len(), 66 + 4);
 }
 
-#[test]
-fn replies_are_out_before_more_is_read() {
-    let mut child = Command::new(REFERENCE)
+/// Sends pieces of input one by one, and sees each piece's replies come before the
+/// next is sent.
+fn converse(program: &str, pieces: &[(String, Vec<String>)]) {
+    let mut child = Command::new(program)
         .stdin(Stdio::piped())
         .stdout(Stdio::piped())
         .spawn()
         .expect("the program starts");
     let mut input = child.stdin.take().unwrap();
     let mut output = BufReader::new(child.stdout.take().unwrap());
-    let secret = "01".repeat(32);
-    for (sent, expected) in [
-        ("7\n".to_string(), vec!["0001"]),
-        (format!("10{}\n", secret), vec!["90"]),
-        ("ff\n0f\n0f00000000000000".to_string(), vec!["0002", "0003"]),
-        ("05\n".to_string(), vec!["8f0000000000000005"]),
-    ] {
+    for (sent, expected) in pieces {
         input.write_all(sent.as_bytes()).unwrap();
         input.flush().unwrap();
         for reply in expected {
@@ -100,6 +99,83 @@ fn replies_are_out_before_more_is_read() {
     }
     drop(input);
     assert!(child.wait().unwrap().success());
+}
+
+fn piece(sent: &str, expected: &[&str]) -> (String, Vec<String>) {
+    (sent.to_string(), expected.iter().map(|reply| reply.to_string()).collect())
+}
+
+#[test]
+fn replies_are_out_before_more_is_read() {
+    let open = format!("10{}\n", "01".repeat(32));
+    let pieces = [
+        piece("7\n", &["0001"]),
+        piece(&open, &["90"]),
+        piece("ff\n0f\n0f00000000000000", &["0002", "0003"]),
+        piece("05\n", &["8f0000000000000005"]),
+    ];
+    converse(REFERENCE, &pieces);
+}
+
+/// The digest of the empty string.
+const EMPTY: &str = "e3b0c44298fc1c149afbf4c8996fb92427ae41e4649b934ca495991b7852b855";
+
+#[test]
+fn answers_are_out_before_more_is_read() {
+    let refused = |number: &str| number.to_string() + EMPTY;
+    let pieces = [
+        piece("x\n", &["?"]),
+        piece("\n", &[EMPTY]),
+        piece("r0000\nw0000ff\nr00000f00000000000000", &[&refused("01"), &refused("02")]),
+        piece("05\n", &[&refused("0f")]),
+    ];
+    converse(PROBE, &pieces);
+}
+
+fn probe_answers(input: &[u8]) -> String {
+    let output = run(PROBE, &[], input);
+    assert!(output.status.success());
+    String::from_utf8(output.stdout).unwrap()
+}
+
+#[test]
+fn a_last_probe_without_newline_counts_if_not_empty() {
+    let refused = format!("01{}\n", EMPTY);
+    assert_eq!(probe_answers(b""), "");
+    assert_eq!(probe_answers(b"\n"), format!("{}\n", EMPTY));
+    assert_eq!(probe_answers(b"r0000"), refused);
+    assert_eq!(probe_answers(b"r0000\n"), refused);
+    assert_eq!(probe_answers(b"?\n\nr0000"), format!("?\n{}\n{}", EMPTY, refused));
+    assert_eq!(probe_answers(b"r0000\r\n"), refused);
+    assert_eq!(probe_answers(b"r000\r\n"), "?\n");
+}
+
+#[test]
+fn a_probe_longer_than_is_kept_gets_one_answer() {
+    for length in [16_384, 16_385, 16_386, 100_000] {
+        let digits = vec![b'0'; length];
+        let expected = String::from_utf8(probes::answer(&digits)).unwrap();
+        assert_eq!(expected == "?\n", length > 16_384);
+        let input = [&digits[..], b"\nr0000", &digits, b"\nw0000", &digits, b"\n?"].concat();
+        assert_eq!(probe_answers(&input), format!("{}01{}\n?\n?\n", expected, EMPTY));
+    }
+}
+
+/// Probes made by `probes` and answered by `probe` are those made and answered in
+/// this process.
+#[test]
+fn probes_through_the_programs() {
+    let made = run(PROBES, &["42", "3000"], b"");
+    assert!(made.status.success());
+    let mut lines = Vec::new();
+    let mut answers = Vec::new();
+    probes::generate(42, 3000, &mut |probe| {
+        lines.extend_from_slice(probe);
+        lines.push(b'\n');
+        answers.extend(probes::answer(probe));
+    });
+    assert!(made.stdout == lines);
+    assert!(probe_answers(&lines).as_bytes() == answers);
 }
 
 /// A session made by `sessions` and answered by `reference` is the one made and
@@ -127,7 +203,7 @@ fn a_session_through_the_programs() {
 
 #[test]
 fn bad_arguments_get_a_usage_message_and_status_2() {
-    let cases: [(&str, &[&str]); 10] = [
+    let cases: [(&str, &[&str]); 16] = [
         (REFERENCE, &["--tracing"]),
         (REFERENCE, &["--trace", "more"]),
         (SESSIONS, &[]),
@@ -138,6 +214,12 @@ fn bad_arguments_get_a_usage_message_and_status_2() {
         (VECTORS, &[]),
         (VECTORS, &["program"]),
         (VECTORS, &["program", "--"]),
+        (PROBE, &["more"]),
+        (PROBES, &[]),
+        (PROBES, &["1"]),
+        (PROBES, &["1", "2", "3"]),
+        (PROBES, &["x", "2"]),
+        (PROBES, &["1", "-2"]),
     ];
     for (program, arguments) in cases {
         let output = run(program, arguments, b"");
@@ -161,17 +243,18 @@ fn digest_program() -> PathBuf {
 
 #[test]
 fn vectors_agree_on_all_three_files() {
-    let program = digest_program();
     let files = ["SHA256ShortMsg.rsp", "SHA256LongMsg.rsp", "SHA256Monte.rsp"].map(vector_file);
-    let mut arguments = vec![program.to_str().unwrap(), "--"];
-    arguments.extend(files.iter().map(String::as_str));
-    let output = run(VECTORS, &arguments, b"");
-    assert_eq!(String::from_utf8_lossy(&output.stderr), "");
-    let expected = "SHA256ShortMsg.rsp: 65 of 65 digests agree\n\
-                    SHA256LongMsg.rsp: 64 of 64 digests agree\n\
-                    SHA256Monte.rsp: 100 of 100 digests agree\n";
-    assert_eq!(String::from_utf8_lossy(&output.stdout), expected);
-    assert_eq!(output.status.code(), Some(0));
+    for program in [digest_program().to_str().unwrap(), PROBE] {
+        let mut arguments = vec![program, "--"];
+        arguments.extend(files.iter().map(String::as_str));
+        let output = run(VECTORS, &arguments, b"");
+        assert_eq!(String::from_utf8_lossy(&output.stderr), "");
+        let expected = "SHA256ShortMsg.rsp: 65 of 65 digests agree\n\
+                        SHA256LongMsg.rsp: 64 of 64 digests agree\n\
+                        SHA256Monte.rsp: 100 of 100 digests agree\n";
+        assert_eq!(String::from_utf8_lossy(&output.stdout), expected);
+        assert_eq!(output.status.code(), Some(0));
+    }
 }
 
 /// Writes a file for one test and gives its path.

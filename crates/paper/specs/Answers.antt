@@ -67,24 +67,6 @@ pub record Answer : Type 0 where
   pub forms : List Str
   pub effect : Effect
 
-abbrev pub kindByte : Request → ℕ
-kindByte (path x x′ sides l) = 0x01
-kindByte (witness x y m) = 0x02
-kindByte (join x y x′ y′ m1 z z′ m2) = 0x03
-kindByte (pair x1 y x1′ y′ m1 x2 z x2′ z′ m2) = 0x04
-kindByte (raise x1 x2 y x1′ x2′ y′ m1 z z′ m2) = 0x05
-kindByte (swap x1 x2 y y′ m) = 0x06
-kindByte (first A) = 0x07
-kindByte (place A A′ B′ ω y y′ m) = 0x08
-kindByte (turn x y m) = 0x09
-kindByte (chain x y m1 z m2) = 0x0a
-kindByte (adopt y y′ m) = 0x0b
-kindByte (setTo A A′ old v2 v3 v4 y y′ m) = 0x0c
-kindByte (clear A A′ old y y′ m) = 0x0d
-kindByte (ask q A A′ r y m) = 0x0e
-kindByte (askNone q) = 0x0f
-kindByte (unlock k) = 0x10
-
 module _ (D : List ℕ → Dig) where
   -- an answer that lists some digests and then the memorandum that it issues
   abbrev pub issue : Registers → (shown : List ℕ) (before : List Str) → Memo → Change → Answer

@@ -12,7 +12,7 @@ use Rattle.paper.specs.declared.Registers.{Registers}
 use Rattle.paper.specs.Strings.{Dig, nought, Str, leaf, node, entry, memo, u1, v1, u2, ei, lengthOf, malformed, inGap, recordHash, H}
 use Rattle.paper.specs.Requests.{kindOf, fits}
 use Rattle.paper.specs.Refusals.{roomFor, replyRoom, isHex}
-use Rattle.paper.specs.Module.{answerTo}
+use Rattle.paper.specs.Module.{answerTo, replyLine}
 
 abbrev four : (revision mass offset rigging : ℕ) → Record
 four a b c d =
@@ -133,7 +133,7 @@ wholeRun =
 abbrev pub Runs : (D : List ℕ → Dig) → Registers → List Turn → Type 0
 Runs D s [] = Unit {0}
 Runs D s (turn line reply ∷ l) =
-    (answerTo D s line replyRoom .reply ≡ reply ++ (0x0a ∷ [])) × Runs D (answerTo D s line replyRoom .after) l
+    (replyLine (answerTo D s line replyRoom) ≡ reply ++ (0x0a ∷ [])) × Runs D (answerTo D s line replyRoom .after) l
 
 pub record ByHand : Type 1 where
   pub rows : (D : List ℕ → Dig) (u : Dig) → EveryRow D (table u)

@@ -10,7 +10,7 @@ use Rattle.paper.specs.declared.Registers.{Registers}
 use Rattle.paper.specs.Strings.{Dig, Str}
 use Rattle.paper.specs.Requests.{Request, kindOf, requestOf}
 use Rattle.paper.specs.Refusals.{Check, order, longestFrame, roomFor, replyRoom, isHex, isKind, isFrame, needs, Verdict, refused, passed, judge}
-use Rattle.paper.specs.Answers.{Effect, none′, answer, kindByte}
+use Rattle.paper.specs.Answers.{Effect, none′, answer}
 
 -- ── the reader and the writer ──
 
@@ -39,44 +39,45 @@ writeRefusal f space =
 
 -- ── the module ──
 
--- What a line comes to: the number of its refusal or 0, its reply line, the registers after it, the strings
+-- What a request comes to: the number of its refusal or 0, the bytes of its reply, the registers after it, the strings
 -- formed, and what it does beyond its reply.
 pub record Told : Type 0 where
   pub refusal : ℕ
-  pub reply : List ℕ
+  pub says : List ℕ
   pub after : Registers
   pub formed : List Str
   pub effect : Effect
 
--- "A refusal is 00 and its number"; of 15 "nothing written"; "registers stay as they were each time"
-abbrev pub refusalReply : ℕ → List ℕ
-refusalReply n = pick (eqb n 15) [] (lineOf (0x00 ∷ n ∷ []))
-
--- "A reply is the kind plus 80 hexadecimal, then what the table lists."
 module _ (D : List ℕ → Dig) where
-  abbrev pub told : Registers → Request → Verdict → Told
-  told s q (refused n fs) =
-      record { refusal = n; reply = refusalReply n; after = s; formed = fs; effect = none′ }
-  told s q (passed fs) =
+  -- "A refusal is 00 and its number", "registers stay as they were each time"; "a reply is the kind plus 80
+  -- hexadecimal, then what the table lists"
+  abbrev pub told : Registers → (kind : ℕ) → Request → Verdict → Told
+  told s kind q (refused n fs) = record { refusal = n; says = 0x00 ∷ n ∷ []; after = s; formed = fs; effect = none′ }
+  told s kind q (passed fs) =
       let a = answer D s q in
       record {
         refusal = 0;
-        reply = lineOf ((0x80 + kindByte q) ∷ a .lists);
+        says = (0x80 + kind) ∷ a .lists;
         after = a .after;
         formed = a .forms ++ fs;
         effect = a .effect;
       }
 
-  -- all checks of a line with its reply space
-  abbrev pub checks : Registers → (line : List ℕ) (space : ℕ) → List Check
-  checks s line space =
-      let f = bytesOf line in
-      roomFor replyRoom space ∷ isHex line ∷ frameChecks f ++ needs D s (requestOf f)
+  -- a frame, well formed or not
+  unfoldable pub answerFrame : Registers → (frame : List ℕ) → Told
+  answerFrame s f = told s (kindOf f) (requestOf f) (judge (drop 2 order) [] (frameChecks f ++ needs D s (requestOf f)))
 
-  -- the whole answer
+  -- a line with its reply space
   unfoldable pub answerTo : Registers → (line : List ℕ) (space : ℕ) → Told
-  answerTo s line space = told s (requestOf (bytesOf line)) (judge order [] (checks s line space))
+  answerTo s line space =
+      let f = bytesOf line in
+      told s (kindOf f) (requestOf f)
+      (judge order [] (roomFor replyRoom space ∷ isHex line ∷ (frameChecks f ++ needs D s (requestOf f))))
+
+-- the reply's line, with its 0A; of 15 "nothing written"
+abbrev pub replyLine : Told → List ℕ
+replyLine t = pick (eqb (t .refusal) 15) [] (lineOf (t .says))
 
 -- the reply space after it: the reply over its front, every other byte as it was
 abbrev pub spaceAfter : Told → List ℕ → List ℕ
-spaceAfter t d = t .reply ++ drop (length (t .reply)) d
+spaceAfter t d = replyLine t ++ drop (length (replyLine t)) d

@@ -2,14 +2,14 @@
 use mathlib.Core.Bool.{Bool, true, false}
 use mathlib.Core.Path.{_≡_, refl, sym, ap, _∙_}
 use mathlib.Core.List.{List, [], _∷_, _++_}
-use Prim.Native.Nat.{ℕ, suc, _+_, _*_, _/_, _%_, _^_, _<_, _≤_}
+use Prim.Native.Nat.{ℕ, zero, suc, _+_, _*_, _/_, _%_, _^_, _<_, _≤_}
 use native.Mathlib.Nat.{div-div-eq-div-mul, div-add-mod, mod-eq-of-lt}
 use native.Mathlib.Numerals.{add-one}
 use native.Mathlib.Omega.{arith}
 use borrow.Author.Tests.{eqb-true, eq-eqb}
 use lib.Dec.{eqb}
-use lib.ListN.{length, getD, take, drop, drop-of-length-le}
-use lib.Seq.{drop-cons}
+use lib.ListN.{length, getD, take, drop, replicate, drop-of-length-le, length-take, length-drop, length-append, length-replicate}
+use lib.Seq.{drop-cons, take-append-le, getD-take, getD-drop}
 use Rattle.seqs.specs.Choose.{both, both-true}
 
 -- every element is a byte
@@ -48,6 +48,10 @@ unfoldable pub numberAt : List ℕ → ℕ → ℕ
 numberAt s at =
     number8 (getD s at 0) (getD s (at + 1) 0) (getD s (at + 2) 0) (getD s (at + 3) 0) (getD s (at + 4) 0) (getD s (at + 5) 0)
     (getD s (at + 6) 0) (getD s (at + 7) 0)
+
+-- the 32 bytes from place `at` on, a missing byte being 0
+unfoldable pub digestAt : List ℕ → ℕ → List ℕ
+digestAt s at = take 32 (drop at s ++ replicate 32 0)
 
 -- two lists are the same, element by element
 abbrev pub same : List ℕ → List ℕ → Bool
@@ -114,6 +118,31 @@ number-at s at h =
       part-suc 0 (at + 7) s (omega arith),
       z,
     )
+
+-- 32 bytes that are there
+pub digest-at : (s : List ℕ) (at : ℕ) → at + 32 ≤ length s → digestAt s at ≡ take 32 (drop at s)
+unfolding digestAt
+digest-at s at h = take-append-le 32 (drop at s) (replicate 32 0) (simp length-drop (omega arith))
+
+pub digest-at-length : (s : List ℕ) (at : ℕ) → length (digestAt s at) ≡ 32
+unfolding digestAt
+digest-at-length s at = simp (length-take, length-append, length-replicate) (omega arith)
+
+-- one of them
+zeros : (n i : ℕ) → _≡_ {A = ℕ} (getD (replicate n 0) i 0) 0
+zeros zero i = refl
+zeros (suc n) zero = refl
+zeros (suc n) (suc i) = zeros n i
+
+past : (l : List ℕ) (n i : ℕ) → getD (l ++ replicate n 0) i 0 ≡ getD l i 0
+past [] n i = zeros n i
+past (b ∷ l) n zero = refl
+past (b ∷ l) n (suc i) = past l n i
+
+pub digest-at-byte : (s : List ℕ) (at i : ℕ) → i < 32 → getD (digestAt s at) i 0 ≡ getD s (at + i) 0
+unfolding digestAt
+digest-at-byte s at i h =
+    getD-take 32 (drop at s ++ replicate 32 0) i 0 h ∙ past (drop at s) 32 i ∙ getD-drop at s i 0
 
 pub be64-length : (n : ℕ) → length (be64 n) ≡ 8
 unfolding be64

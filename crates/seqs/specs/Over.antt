@@ -1,6 +1,6 @@
 -- A list written over the front of a buffer, element by element.
 -- A loop that fills a buffer keeps `buffer ≡ over i written buffer₀`: a turn is `over-next`, the end `over-all`.
-use mathlib.Core.Path.{_≡_, refl, ap}
+use mathlib.Core.Path.{_≡_, refl, sym, ap, _∙_}
 use mathlib.Core.List.{List, [], _∷_, _++_}
 use Prim.Native.Nat.{ℕ, zero, suc, _+_, _<_, _≤_}
 use native.Mathlib.Nat.{not-suc-le-zero, le-of-suc-le-suc}
@@ -9,7 +9,7 @@ use native.Mathlib.Omega.{arith}
 use borrow.Author.Tests.{le-leb, lt-leb}
 use lib.Dec.{leb}
 use lib.ListN.{length, getD, take, drop, set, length-append, length-take, length-drop}
-use lib.Seq.{take-all}
+use lib.Seq.{take-all, take-at, drop-append-add, drop-drop}
 use Rattle.seqs.specs.Choose.{pick}
 
 module _ {ℓ} {A : Type ℓ} where
@@ -48,3 +48,30 @@ module _ {ℓ} {A : Type ℓ} where
   pub written-not : (l d : List A) (n : ℕ) → length l ≡ n → length d < n → written l d ≡ d
   unfolding written
   written-not l d n e h = rw (e, lt-leb n (length d) h)
+
+  -- ── at a place ──
+
+  -- a buffer into which a list is to be put at a place: it is, where it fits, and else nothing is
+  unfoldable pub putAt : List A → ℕ → List A → List A
+  putAt d at s = pick (leb (at + length s) (length d)) ((take at d ++ s) ++ drop (at + length s) d) d
+
+  -- a run of puts, each where the last one ended: p stands over the front of d
+  pub record Front (d e p : List A) (at : ℕ) : Type ℓ where
+    pub here : e ≡ p ++ drop at d
+    pub long : length p ≡ at
+
+  pub front-next : {d e p : List A} {at : ℕ} (e′ s : List A) (k m : ℕ) → Front d e p at → e′ ≡ putAt e at s → length s ≡ k → at + k ≡ m
+      → m ≤ length d → Front d e′ (p ++ s) m
+  unfolding putAt
+  front-next {d} {e} {p} {at} e′ s k m f h n j room =
+      let size : length e ≡ length d = rw (f .here) (simp (length-append, length-drop) (omega (arith, f .long))) in
+      let t = le-leb (at + length s) (length e) (omega arith) in
+      let j′ : at + length s ≡ m = omega arith in
+      let front = ap (take at) (f .here) ∙ take-at p (drop at d) at (f .long) in
+      let back : drop (at + length s) (p ++ drop at d) ≡ drop m d =
+      ap (λ (i : ℕ). drop (i + length s) (p ++ drop at d)) (sym (f .long)) ∙ drop-append-add p (drop at d) (length s)
+      ∙ drop-drop (length s) at d ∙ ap (λ (i : ℕ). drop i d) j′ in
+      record {
+        here = h ∙ rw t ((λ i. (front i ++ s) ++ drop (at + length s) (f .here i)) ∙ ap (λ (l : List A). (p ++ s) ++ l) back);
+        long = simp length-append (omega (arith, f .long));
+      }

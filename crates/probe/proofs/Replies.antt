@@ -14,7 +14,7 @@ use Rattle.hex.proofs.Laws.{bytes-length, line-length}
 use Rattle.sha256.proofs.Digests.{sha256-length}
 use Rattle.hex.specs.Hex.{allDigits, bytesOf, lineOf}
 use Rattle.sha256.specs.Hash.{sha256}
-use Rattle.hash_lines.specs.Answer.{answerOf}
+use Rattle.probe.specs.Answer.{answerOf}
 
 -- the reply to what is no message
 abbrev pub no : List ℕ

@@ -5,8 +5,8 @@ use native.Mathlib.Omega.{arith}
 use lib.ListN.{length-set}
 use lib.Seq.{sets-eq}
 use borrow.Author.Needs.{needs}
-use Rattle.hash_lines.proofs.not_a_message.Statement.{statement}
-use Rattle.hash_lines.proofs.not_a_message.Tie as tie
+use Rattle.probe.proofs.not_a_message.Statement.{statement}
+use Rattle.probe.proofs.not_a_message.Tie as tie
 
 slice-write-reply : tie.Need-slice-write-reply
 slice-write-reply c = search needs

@@ -10,8 +10,8 @@ use Rattle.pieces.specs.declared.Cut.{Cut}
 use Rattle.pieces.specs.Cutting.{Within}
 use Rattle.pieces.proofs.Laws.{within}
 use borrow.Author.Needs.{needs}
-use Rattle.hash_lines.proofs.serve.Statement.{statement}
-use Rattle.hash_lines.proofs.serve.Tie as tie
+use Rattle.probe.proofs.serve.Statement.{statement}
+use Rattle.probe.proofs.serve.Tie as tie
 
 abbrev Inv-loop : tie.InvT-loop
 Inv-loop piece line₀ held at₀ n₀ line at n = (at ≤ length piece) × (n ≤ length line) × (length line ≡ length line₀)

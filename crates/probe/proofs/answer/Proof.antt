@@ -8,10 +8,10 @@ use lib.ListN.{length}
 use Rattle.seqs.specs.Over.{written-fits}
 use Rattle.hex.specs.Hex.{allDigits, bytesOf}
 use Rattle.hex.proofs.Laws.{bytes-length}
-use Rattle.hash_lines.proofs.Replies.{odd, other-byte, too-long, message, said-no, said-digest}
+use Rattle.probe.proofs.Replies.{odd, other-byte, too-long, message, said-no, said-digest}
 use borrow.Author.Needs.{needs}
-use Rattle.hash_lines.proofs.answer.Statement.{statement}
-use Rattle.hash_lines.proofs.answer.Tie as tie
+use Rattle.probe.proofs.answer.Statement.{statement}
+use Rattle.probe.proofs.answer.Tie as tie
 
 not-a-message-requires : tie.Need-not-a-message-requires
 not-a-message-requires c κs = search needs

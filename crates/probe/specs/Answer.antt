@@ -1,4 +1,4 @@
--- The reply to a message in hexadecimal.
+-- The answer to a message in hexadecimal.
 use mathlib.Core.List.{List, [], _∷_}
 use Prim.Native.Nat.{ℕ, _/_, _%_}
 use lib.Dec.{eqb, leb}
@@ -6,8 +6,8 @@ use lib.ListN.{length}
 use Rattle.seqs.specs.Choose.{pick, both}
 use Rattle.hex.specs.Hex.{allDigits, bytesOf, lineOf}
 use Rattle.sha256.specs.Hash.{sha256}
-use Rattle.hash_lines.specs.declared.After.{After}
-use Rattle.hash_lines.specs.declared.After.the-variants.{Go, End}
+use Rattle.probe.specs.declared.After.{After}
+use Rattle.probe.specs.declared.After.the-variants.{Go, End}
 
 -- the line of its digest, or `?` where the line is no message of at most room bytes
 unfoldable pub answerOf : ℕ → List ℕ → List ℕ

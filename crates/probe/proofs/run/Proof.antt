@@ -3,10 +3,10 @@ use mathlib.Core.Path.{_≡_, refl, sym, ap}
 use Prim.Native.Nat.{_≤_}
 use native.Mathlib.Omega.{arith}
 use lib.ListN.{length}
-use Rattle.hash_lines.specs.Answer.{heldOf}
+use Rattle.probe.specs.Answer.{heldOf}
 use borrow.Author.Needs.{needs}
-use Rattle.hash_lines.proofs.run.Statement.{statement}
-use Rattle.hash_lines.proofs.run.Tie as tie
+use Rattle.probe.proofs.run.Statement.{statement}
+use Rattle.probe.proofs.run.Tie as tie
 
 abbrev Inv-loop : tie.InvT-loop
 Inv-loop input₀ line₀ held₀ turns₀ input line held turns = (held ≤ length line) × (length input ≡ length input₀) × (length line ≡ length line₀)

@@ -1,0 +1,232 @@
+// A program for tests. Each line of standard input is a question, answered by one line on standard output before more
+// input is waited for:
+// - a message in hexadecimal: its digest;
+// - `r`, four hexadecimal digits and a line: what reading the line into a frame space of so many bytes comes to;
+// - `w`, four hexadecimal digits and a frame in hexadecimal: what writing it into a line space of so many bytes does.
+// The answer to r and w is the refusal number (00 where there is none) and the digest of the whole space afterwards,
+// each byte of which was ee before. `?` answers what is none of these.
+use lines::Read;
+use lines::Wrote;
+use pieces::Cut;
+ghost use mathlib.Core.Path.{_≡_};
+ghost use mathlib.Core.List.{_++_, _∷_, []};
+ghost use Prim.Native.Nat.{_≤_};
+ghost use lib.ListN.{length, drop};
+ghost use Rattle.probe.specs.Answer.{answerOf, heldOf};
+
+// What one read left: go on with so many bytes of a line held, or the input ended there.
+enum After {
+    Go(usize),
+    End(usize),
+}
+
+// `?` and 0A over the front of the reply.
+fn not_a_message(reply: &mut [u8]) -> usize
+    requires { ⌜ 65 ≤ length (now reply) ⌝ }
+    ensures { λ r. ⌜ (r ≡ 2) × (now (reply .exit) ≡ (0x3f ∷ 0x0a ∷ []) ++ drop 2 (now (reply .entry))) ⌝ }
+{
+    reply[0] = b'?';
+    reply[1] = 0x0a;
+    2
+}
+
+// The digest of a message over the front of the reply, and the reply's length.
+fn answer(line: &[u8], message: &mut [u8], reply: &mut [u8]) -> usize
+    requires { ⌜ 65 ≤ length (now reply) ⌝ }
+    ensures { λ r. ⌜ r ≡ length (answerOf (length (now (message .entry))) (now (line .entry))) ⌝ }
+    ensures { λ r. ⌜ now (reply .exit) ≡ answerOf (length (now (message .entry))) (now (line .entry)) ++ drop r (now (reply .entry)) ⌝ }
+{
+    if line.len() % 2 == 1 {
+        return not_a_message(reply);
+    }
+    if !hex::all_digits(line) {
+        return not_a_message(reply);
+    }
+    if !hex::read(line, message) {
+        return not_a_message(reply);
+    }
+    let n = line.len() / 2;
+    let digest = sha256::digest(&message[0..n]);
+    hex::write(&digest, reply);
+    65
+}
+
+// Prints `?`.
+fn print_none() {
+    io::write_all(1, b"?\n");
+}
+
+// Prints a refusal number and the digest of a space.
+fn print_outcome(number: u8, space: &[u8]) {
+    let digits = [hex::high_digit(number), hex::low_digit(number)];
+    let digest = sha256::digest(space);
+    let mut line = [0u8; 65];
+    hex::write(&digest, &mut line);
+    io::write_all(1, &digits);
+    io::write_all(1, &line);
+}
+
+fn read_number(r: Read) -> u8 {
+    match r {
+        Read::Frame(_, _) => 0,
+        Read::Refused(n) => n,
+    }
+}
+
+fn write_number(w: Wrote) -> u8 {
+    match w {
+        Wrote::Line(_) => 0,
+        Wrote::Rejected(n) => n,
+    }
+}
+
+// The size that the four digits behind a probe's letter give; 65,536 where they are not there.
+fn size_of(line: &[u8]) -> usize {
+    if line.len() < 5 {
+        return 65536;
+    }
+    let digits = &line[1..5];
+    if !hex::all_digits(digits) {
+        return 65536;
+    }
+    let high = hex::byte_at(digits, 0) as usize;
+    let low = hex::byte_at(digits, 1) as usize;
+    256 * high + low
+}
+
+fn read_into(line: &[u8], space: &mut [u8]) {
+    let number = read_number(lines::read_line(line, space));
+    print_outcome(number, space);
+}
+
+fn read_probe(line: &[u8]) {
+    let size = size_of(line);
+    if 4400 < size {
+        print_none();
+        return;
+    }
+    if line.len() < 5 {
+        print_none();
+        return;
+    }
+    let mut space = [0xeeu8; 4400];
+    read_into(&line[5..], &mut space[0..size]);
+}
+
+// The frame behind a write probe's size, and its length; 65,536 where there is none.
+fn frame_of(line: &[u8], frame: &mut [u8]) -> usize {
+    if line.len() < 5 {
+        return 65536;
+    }
+    let digits = &line[5..];
+    if digits.len() % 2 == 1 {
+        return 65536;
+    }
+    if !hex::all_digits(digits) {
+        return 65536;
+    }
+    if !hex::read(digits, frame) {
+        return 65536;
+    }
+    digits.len() / 2
+}
+
+fn write_into(frame: &[u8], space: &mut [u8]) {
+    let number = write_number(lines::write_frame(frame, space));
+    print_outcome(number, space);
+}
+
+fn write_probe(line: &[u8]) {
+    let size = size_of(line);
+    if 4400 < size {
+        print_none();
+        return;
+    }
+    let mut frame = [0u8; 4096];
+    let n = frame_of(line, &mut frame);
+    if 4096 < n {
+        print_none();
+        return;
+    }
+    let mut space = [0xeeu8; 4400];
+    write_into(&frame[0..n], &mut space[0..size]);
+}
+
+fn message_probe(line: &[u8]) {
+    let mut message = [0u8; 8192];
+    let mut reply = [0u8; 65];
+    let n = answer(line, &mut message, &mut reply);
+    if n <= 65 {
+        io::write_all(1, &reply[0..n]);
+    }
+}
+
+fn print_answer(line: &[u8]) {
+    match fields::byte_at(line, 0) {
+        b'r' => read_probe(line),
+        b'w' => write_probe(line),
+        _ => message_probe(line),
+    }
+}
+
+// Every line that ends in the piece is answered; how much is held of the next one is returned.
+fn serve(piece: &[u8], line: &mut [u8], held: usize) -> usize
+    requires { ⌜ held ≤ length (now line) ⌝ }
+    ensures { λ r. ⌜ r ≤ length (now (line .entry)) ⌝ }
+{
+    let mut at: usize = 0;
+    let mut n = held;
+    while at < piece.len() {
+        match pieces::next_line(piece, at, line, n) {
+            Cut::Line(next, len) => {
+                print_answer(&line[0..len]);
+                at = next;
+                n = 0;
+            }
+            Cut::More(len) => {
+                at = piece.len();
+                n = len;
+            }
+        }
+    }
+    n
+}
+
+fn read_and_serve(input: &mut [u8], line: &mut [u8], held: usize) -> After
+    requires { ⌜ held ≤ length (now line) ⌝ }
+    ensures { λ r. ⌜ heldOf r ≤ length (now (line .entry)) ⌝ }
+{
+    let got = libc::read(0, input);
+    let n = io::count(got, input);
+    if n == 0 {
+        return After::End(held);
+    }
+    After::Go(serve(&input[0..n], line, held))
+}
+
+// A proved loop has to end, and nothing says that input does: the turns are counted down from a number
+// that no run uses up.
+fn run(input: &mut [u8], line: &mut [u8]) {
+    let mut held: usize = 0;
+    let mut turns = u64::MAX;
+    while turns > 0 {
+        match read_and_serve(input, line, held) {
+            After::Go(n) => {
+                held = n;
+            }
+            After::End(n) => {
+                if 0 < n {
+                    print_answer(&line[0..n]);
+                }
+                return;
+            }
+        }
+        turns -= 1;
+    }
+}
+
+fn main() {
+    let mut input = io::large_buffer();
+    let mut line = [0u8; 16385];
+    run(&mut input, &mut line);
+}
