@@ -1,0 +1,32 @@
+-- A record without a revision is malformed by the first of its other numbers that is not 0.
+use mathlib.Core.Path.{sym, _∙_}
+use borrow.Author.Tests.{eq-eqb, ne-eqb}
+use Rattle.seqs.specs.Choose.{both-right}
+use Rattle.paper.specs.Strings.{malformed}
+use borrow.Author.Needs.{needs}
+use Rattle.digests.proofs.is_malformed.Statement.{statement}
+use Rattle.digests.proofs.is_malformed.Tie as tie
+
+is-blank-requires : tie.Need-is-blank-requires
+is-blank-requires c κs = search needs
+
+returns : tie.Need-returns
+unfolding malformed
+returns c = simp (sym (c .before .before .before .before .before .before .is-blank .ensures) ∙ c .before .before .before .before .before .if1 .taken, ne-eqb _ _ (c .if2 .taken))
+
+returns-2 : tie.Need-returns-2
+unfolding malformed
+returns-2 c =
+    simp (sym (c .before .before .before .before .before .before .before .before .is-blank .ensures) ∙ c .before .before .before .before .before .before .before .if1 .taken, eq-eqb _ _ (c .before .before .if2 .left), ne-eqb _ _ (c .if3 .taken))
+
+returns-3 : tie.Need-returns-3
+unfolding malformed
+returns-3 c =
+    simp (sym (c .before .before .before .before .before .before .before .before .before .is-blank .ensures) ∙ c .before .before .before .before .before .before .before .before .if1 .taken, eq-eqb _ _ (c .before .before .before .if2 .left), eq-eqb _ _ (c .before .if3 .left), both-right)
+
+returns-4 : tie.Need-returns-4
+unfolding malformed
+returns-4 c = simp (sym (c .before .is-blank .ensures) ∙ c .if1 .left)
+
+pub is-malformed-spec : {M : Type 1} → statement M
+is-malformed-spec = tie.close (tie.spec is-blank-requires returns returns-2 returns-3 returns-4)
