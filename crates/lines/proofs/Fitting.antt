@@ -13,8 +13,8 @@ use Rattle.seqs.specs.Choose.{pick, both, both-true, either, opposite}
 use Rattle.seqs.specs.Bytes.{numberAt, number-at}
 use Rattle.hex.specs.Hex.{bytesOf}
 use Rattle.paper.specs.Requests.{kinds, kindOf, known, fits}
-use Rattle.paper.specs.Refusals.{isHex, refused, passed}
-use Rattle.paper.specs.Module.{refusalOf, isWritable, readRefusal, writeRefusal}
+use Rattle.paper.specs.Refusals.{isHex, refused, passed, judge}
+use Rattle.paper.specs.Module.{refusalOf, frameChecks, isWritable, readRefusal, writeRefusal}
 use Rattle.paper.proofs.Frames as F
 use Rattle.lines.specs.Work.{lengths, fitting}
 
@@ -46,6 +46,17 @@ pub write-by : (f : List ℕ) (space : ℕ) → writeRefusal f space
     ≡ firstOf (isWritable f .fails) (opposite (known (kindOf f))) (opposite (fits f)) (ltb space (2 * length f + 1))
 unfolding writeRefusal
 write-by f space = by-tests (isWritable f .fails) (opposite (known (kindOf f))) (opposite (fits f)) (ltb space (2 * length f + 1))
+
+-- a frame's own two checks
+frame-tests : (b c : Bool)
+    → refusalOf (pick (either b false) (refused 2 []) (pick (either c false) (refused 3 []) (passed []))) ≡ pick b 2 (pick c 3 0)
+frame-tests true c = refl
+frame-tests false true = refl
+frame-tests false false = refl
+
+pub frame-by : (f : List ℕ) → refusalOf (judge (2 ∷ 3 ∷ []) [] (frameChecks f))
+    ≡ pick (opposite (known (kindOf f))) 2 (pick (opposite (fits f)) 3 0)
+frame-by f = frame-tests (opposite (known (kindOf f))) (opposite (fits f))
 
 -- ── check 3 in numbers ──
 

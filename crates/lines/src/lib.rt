@@ -1,5 +1,6 @@
 // Document 01's lines: read into frames, written from them, and the lines of replies.
 ghost use mathlib.Core.Path.{_≡_};
+ghost use mathlib.Core.List.{[], _∷_};
 ghost use Prim.Native.Nat.{_/_, _^_, _≤_};
 ghost use lib.Dec.{eqb};
 ghost use lib.ListN.{length};
@@ -7,7 +8,8 @@ ghost use Rattle.seqs.specs.Bytes.{numberAt};
 ghost use Rattle.seqs.specs.Over.{written};
 ghost use Rattle.hex.specs.Hex.{bytesOf, lineOf};
 ghost use Rattle.paper.specs.Requests.{known};
-ghost use Rattle.paper.specs.Refusals.{isHex};
+ghost use Rattle.paper.specs.Refusals.{isHex, judge};
+ghost use Rattle.paper.specs.Module.{refusalOf, frameChecks};
 ghost use Rattle.lines.specs.Reading.{readOf, frameAfter, wroteOf, lineAfter, replyLength};
 ghost use Rattle.lines.specs.Work.{fitting};
 
@@ -119,6 +121,25 @@ fn sides_of(line: &[u8]) -> u64
         hex::byte_at(line, 72),
         hex::byte_at(line, 73),
     )
+}
+
+// The first of refusals 2 and 3 that applies to a frame, and else 0.
+pub fn frame_refusal(frame: &[u8]) -> u8
+    ensures { λ r. ⌜ r ≡ refusalOf (judge (2 ∷ 3 ∷ []) [] (frameChecks (now (frame .entry)))) ⌝ }
+{
+    let kind = fields::byte_at(frame, 0);
+    if !known_kind(kind) {
+        return 2;
+    }
+    if !frame_fits(
+        kind,
+        frame.len(),
+        fields::byte_at(frame, 65),
+        fields::number_at(frame, 66),
+    ) {
+        return 3;
+    }
+    0
 }
 
 // Reads a line, given without its 0A, into the frame space.

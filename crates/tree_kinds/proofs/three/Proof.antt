@@ -1,0 +1,63 @@
+-- Three puts, each where the last one ended, fill the array.
+use mathlib.Core.Path.{_≡_, refl, ap, _∙_}
+use mathlib.Core.List.{List, [], _++_, append-nil}
+use Prim.Native.Nat.{ℕ}
+use native.Mathlib.Omega.{arith}
+use lib.ListN.{length, replicate}
+use Rattle.seqs.specs.Over.{Front, front-next}
+use borrow.Author.Needs.{needs}
+use Rattle.tree_kinds.proofs.three.Statement.{statement}
+use Rattle.tree_kinds.proofs.three.Tie as tie
+
+slice-aggregate-put : tie.Need-slice-aggregate-put
+slice-aggregate-put c = search needs
+
+slice-aggregate-put-2 : tie.Need-slice-aggregate-put-2
+slice-aggregate-put-2 c = search needs
+
+put-requires : tie.Need-put-requires
+put-requires c κs = search needs
+
+slice-aggregate-put-3 : tie.Need-slice-aggregate-put-3
+slice-aggregate-put-3 c = search needs
+
+slice-aggregate-put-4 : tie.Need-slice-aggregate-put-4
+slice-aggregate-put-4 c = search needs
+
+put-requires-2 : tie.Need-put-requires-2
+put-requires-2 c κs = search needs
+
+slice-aggregate-put-5 : tie.Need-slice-aggregate-put-5
+slice-aggregate-put-5 c = search needs
+
+slice-aggregate-put-6 : tie.Need-slice-aggregate-put-6
+slice-aggregate-put-6 c = search needs
+
+put-requires-3 : tie.Need-put-requires-3
+put-requires-3 c κs = search needs
+
+returns : tie.Need-returns
+returns c =
+    let s = c .before .before .before .before .before .before .before .before .before .before .before .before in
+    let d : List ℕ = replicate 96 0 in
+    let r0 : Front d d [] 0 = record { here = refl; long = refl } in
+    let r1 = front-next (c .before .before .before .before .before .before .before .before .before .put .last .0) (s .args .t1) 32 32 r0 (c .before .before .before .before .before .before .before .before .before .put .ensures) (s .good .0 .1 .0 .1) refl (omega arith) in
+    let r2 = front-next (c .before .before .before .before .before .put2 .last .0) (s .args .t2) 32 64 r1 (c .before .before .before .before .before .put2 .ensures) (s .good .1 .0 .1 .0 .1) refl (omega arith) in
+    let r3 = front-next (c .before .put3 .last .0) (s .args .t3) 32 96 r2 (c .before .put3 .ensures) (s .good .1 .1 .0 .1 .0 .1) refl (omega arith) in
+    let e = r3 .here ∙ append-nil _ in
+    (e, ap length e ∙ r3 .long)
+
+pub three-spec : {M : Type 1} → statement M
+three-spec =
+    tie.close
+    (tie.spec
+    slice-aggregate-put
+    slice-aggregate-put-2
+    put-requires
+    slice-aggregate-put-3
+    slice-aggregate-put-4
+    put-requires-2
+    slice-aggregate-put-5
+    slice-aggregate-put-6
+    put-requires-3
+    returns)
