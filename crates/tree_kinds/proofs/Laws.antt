@@ -73,7 +73,7 @@ module _ (s : Registers) (x1 y x1′ y′ m1 x2 z x2′ z′ m2 : Dig) where
   pub pair-answered : verdict s (Q.pair x1 y x1′ y′ m1 x2 z x2′ z′ m2)
       ≡ passed (memo (u1 x2 z x2′ z′) (s .secret) ∷ memo (u1 x1 y x1′ y′) (s .secret) ∷ [])
       → acceptance s 0x84 (digest sha256 (memo (u2 x1 x2 (H sha256 y z) x1′ x2′ (H sha256 y′ z′)) (s .secret)))
-        (10 + cost (parentForms y z) + cost (parentForms y′ z′))
+      (10 + cost (parentForms y z) + cost (parentForms y′ z′))
       ≡ outcome s 4 (Q.pair x1 y x1′ y′ m1 x2 z x2′ z′ m2)
   unfolding q said
   pair-answered v =
@@ -108,13 +108,13 @@ module _ (s : Registers) (x x′ : Dig) (sides : ℕ) (l : List Dig) where
       let said : lists ≡ (y ++ y′) ++ digest sha256 t = el ∙ (λ i. (fb i ++ gb i) ++ ub i) in
       let forms : List Str = foldForms sha256 x′ sides l ++ foldForms sha256 x sides l in
       let count : f .blocks + g .blocks + 3 ≡ cost ((t ∷ forms) ++ []) =
-            omega (
-              arith,
-              ap (λ (d : Digest). d .blocks) ef,
-              ap (λ (d : Digest). d .blocks) eg,
-              cost-nil (t ∷ forms),
-              cost-append (foldForms sha256 x′ sides l) (foldForms sha256 x sides l),
-            ) in
+      omega (
+        arith,
+        ap (λ (d : Digest). d .blocks) ef,
+        ap (λ (d : Digest). d .blocks) eg,
+        cost-nil (t ∷ forms),
+        cost-append (foldForms sha256 x′ sides l) (foldForms sha256 x sides l),
+      ) in
       answered s 1 (Q.path x x′ sides l) 0x81 (f .blocks + g .blocks + 3) lists [] (path-passed o) refl said count (omega arith)
 
 -- more siblings than there are are all of them

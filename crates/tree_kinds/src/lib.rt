@@ -3,7 +3,6 @@
 use digests::Digest;
 use paper::Registers;
 use replies::Outcome;
-
 ghost use mathlib.Core.Path.{_≡_};
 ghost use mathlib.Core.List.{_++_};
 ghost use Prim.Native.Nat.{_+_, _≤_};

@@ -60,11 +60,12 @@ loop-again c =
     let t : length (a .t2) ≡ 64 = st .good .1 .0 .1 .0 .1 in
     let l = take (a .n) (a .t2) in
     let n : length l ≡ a .n = simp length-take (omega arith) in
-    let g : getD l (k .i) [] ≡ s = getD-take (a .n) (a .t2) (k .i) [] h in
-    (omega arith,
-     omega (arith, count-of _ _ e, level-cost (k .u) s (k .bits % 2)),
-     k .inv .2 ∙ up-next (k .u) (k .bits) l (k .i) s g (omega arith) d e,
-     forms-next (k .u) (k .bits) l (k .i) s g (omega arith) d e (k .b) _ (k .inv .3))
+    let g : getD l (k .i) [] ≡ s = getD-take (a .n) (a .t2) (k .i) [] h in (
+      omega arith,
+      omega (arith, count-of _ _ e, level-cost (k .u) s (k .bits % 2)),
+      k .inv .2 ∙ up-next (k .u) (k .bits) l (k .i) s g (omega arith) d e,
+      forms-next (k .u) (k .bits) l (k .i) s g (omega arith) d e (k .b) _ (k .inv .3),
+    )
 
 returns : tie.Need-returns Inv-loop μ-loop
 returns c =

@@ -68,7 +68,7 @@ returns-4 c =
     let second = fit _ _ _ _ _ (c .before .before .before .before .before .before .before .u12 .ensures) (c .before .before .before .before .before .same-digest2 .ensures) (not-false _ (c .before .before .before .before .if3 .left)) in
     c .accept .ensures
     ∙ answered (a .r) 3 (Q.join (a .x) (a .y) (a .xn) (a .yn) (a .m1) (a .z) (a .zn) (a .m2)) 131 9 _ _ (two-passed (a .r) (u1 (a .x) (a .y) (a .xn) (a .yn)) (u1 (a .y) (a .z) (a .yn) (a .zn)) (a .m1) (a .m2) (not-false (a .r .opened) (c .before .before .before .before .before .before .before .before .before .before .before .before .before .if1 .left)) first second)
-      refl (bytes-of _ _ (c .before .before .before .u13 .ensures)) refl (short _ _ (c .before .before .before .u13 .ensures))
+    refl (bytes-of _ _ (c .before .before .before .u13 .ensures)) refl (short _ _ (c .before .before .before .u13 .ensures))
 
 pub join-spec : {M : Type 1} → statement M
 join-spec =

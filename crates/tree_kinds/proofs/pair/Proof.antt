@@ -62,7 +62,7 @@ returns-4 c =
     let second = fit _ _ _ _ _ (c .before .before .before .before .u12 .ensures) (c .before .before .same-digest2 .ensures) (not-false _ (c .before .if3 .left)) in
     c .pair-answer .ensures
     ∙ pair-answered (a .r) (a .x1) (a .y) (a .x1n) (a .yn) (a .m1) (a .x2) (a .z) (a .x2n) (a .zn) (a .m2)
-      (two-passed (a .r) (u1 (a .x1) (a .y) (a .x1n) (a .yn)) (u1 (a .x2) (a .z) (a .x2n) (a .zn)) (a .m1) (a .m2) (not-false (a .r .opened) (c .before .before .before .before .before .before .before .before .before .before .if1 .left)) first second)
+    (two-passed (a .r) (u1 (a .x1) (a .y) (a .x1n) (a .yn)) (u1 (a .x2) (a .z) (a .x2n) (a .zn)) (a .m1) (a .m2) (not-false (a .r .opened) (c .before .before .before .before .before .before .before .before .before .before .if1 .left)) first second)
 
 pub pair-spec : {M : Type 1} → statement M
 pair-spec =

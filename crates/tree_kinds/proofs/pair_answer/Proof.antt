@@ -43,8 +43,8 @@ returns c =
     let h = c .before .before .before .before .before .before .before .before .before .parent .ensures in
     let hn = c .before .before .before .before .before .before .before .before .parent2 .ensures in
     let halves =
-          ap₂ (λ (p q : Dig). digest sha256 (memo (u2 (a .x1) (a .x2) p (a .x1n) (a .x2n) q) (a .r .secret)))
-          (ap (λ (d : Digest). d .bytes) h) (ap (λ (d : Digest). d .bytes) hn) in
+    ap₂ (λ (p q : Dig). digest sha256 (memo (u2 (a .x1) (a .x2) p (a .x1n) (a .x2n) q) (a .r .secret)))
+    (ap (λ (d : Digest). d .bytes) h) (ap (λ (d : Digest). d .bytes) hn) in
     let w = bytes-of _ _ (c .before .before .before .before .before .u2 .ensures) ∙ halves in
     c .accept .ensures ∙ (λ i. acceptance (a .r) 0x84 (w i) (10 + count-of _ _ h i + count-of _ _ hn i))
 

@@ -44,8 +44,8 @@ returns-2 c =
     let a = c .before .before .before .before .before .before .before .before .before .before .before .before .before .before .args in
     c .accept .ensures
     ∙ path-answered (a .r) (a .x) (a .xn) (a .sides) (take (a .n) (a .siblings)) (not-false (a .r .opened) (c .before .before .before .before .before .before .before .before .before .before .before .before .if1 .left))
-      (c .before .before .before .before .before .before .before .before .before .before .fold .result) (c .before .before .before .before .before .before .before .before .before .fold2 .result) (c .before .before .before .before .before .before .u1 .result) (c .before .before .before .before .before .before .before .before .before .before .fold .ensures .0) (c .before .before .before .before .before .before .before .before .before .fold2 .ensures .0) (c .before .before .before .before .before .before .u1 .ensures)
-      (c .before .before .before .before .three .result) (c .before .before .before .before .three .ensures .0) (c .before .before .before .before .three .ensures .1)
+    (c .before .before .before .before .before .before .before .before .before .before .fold .result) (c .before .before .before .before .before .before .before .before .before .fold2 .result) (c .before .before .before .before .before .before .u1 .result) (c .before .before .before .before .before .before .before .before .before .before .fold .ensures .0) (c .before .before .before .before .before .before .before .before .before .fold2 .ensures .0) (c .before .before .before .before .before .before .u1 .ensures)
+    (c .before .before .before .before .three .result) (c .before .before .before .before .three .ensures .0) (c .before .before .before .before .three .ensures .1)
 
 pub path-of-spec : {M : Type 1} → statement M
 path-of-spec =

@@ -68,7 +68,7 @@ returns-4 c =
     let second = fit _ _ _ _ _ (c .before .before .before .before .before .before .before .u1 .ensures) (c .before .before .before .before .before .same-digest2 .ensures) (not-false _ (c .before .before .before .before .if3 .left)) in
     c .accept .ensures
     ∙ answered (a .r) 5 (Q.raise (a .x1) (a .x2) (a .y) (a .x1n) (a .x2n) (a .yn) (a .m1) (a .z) (a .zn) (a .m2)) 133 11 _ _ (two-passed (a .r) (u2 (a .x1) (a .x2) (a .y) (a .x1n) (a .x2n) (a .yn)) (u1 (a .y) (a .z) (a .yn) (a .zn)) (a .m1) (a .m2) (not-false (a .r .opened) (c .before .before .before .before .before .before .before .before .before .before .before .before .before .if1 .left)) first second)
-      refl (bytes-of _ _ (c .before .before .before .u22 .ensures)) refl (short _ _ (c .before .before .before .u22 .ensures))
+    refl (bytes-of _ _ (c .before .before .before .u22 .ensures)) refl (short _ _ (c .before .before .before .u22 .ensures))
 
 pub raise-spec : {M : Type 1} → statement M
 raise-spec =

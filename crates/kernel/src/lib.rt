@@ -1,0 +1,295 @@
+// One frame on registers by value: the frame's own checks, its fields taken apart by their places, and the function of
+// its kind.
+use paper::Item;
+use paper::Kilograms;
+use paper::Millimetres;
+use paper::Record;
+use paper::Registers;
+use paper::Revision;
+use paper::Rigging;
+use replies::Outcome;
+ghost use mathlib.Core.Bool.{true};
+ghost use mathlib.Core.Path.{_≡_};
+ghost use Prim.Native.Nat.{_≤_};
+ghost use lib.ListN.{getD, take};
+ghost use Rattle.sha256.specs.Hash.{sha256};
+ghost use Rattle.paper.specs.Requests.{kindOf, known, fits, requestOf};
+ghost use Rattle.paper.specs.Module.{answerFrame};
+ghost use Rattle.replies.specs.Outcomes.{outcomeOf, outcome};
+ghost use Rattle.kernel.specs.Places as At;
+
+fn item_at(f: &[u8], at: usize) -> Item
+    ensures { λ r. ⌜ r ≡ At.itemAt (now (f .entry)) at ⌝ }
+{
+    Item(fields::number_at(f, at))
+}
+
+fn record_at(f: &[u8], at: usize) -> Record
+    requires { ⌜ at ≤ 2122 ⌝ }
+    ensures { λ r. ⌜ r ≡ At.recordAt (now (f .entry)) at ⌝ }
+{
+    Record {
+        revision: Revision(fields::number_at(f, at)),
+        mass: Kilograms(fields::number_at(f, at + 8)),
+        offset: Millimetres(fields::number_at(f, at + 16)),
+        rigging: Rigging(fields::number_at(f, at + 24)),
+    }
+}
+
+// The n siblings of a path over the front of the array.
+fn siblings(f: &[u8], n: usize) -> [[u8; 32]; 64]
+    requires { ⌜ n ≤ 64 ⌝ }
+    ensures { λ r. ⌜ take n r ≡ At.siblingsAt (now (f .entry)) 74 n ⌝ }
+{
+    let mut out = [[0u8; 32]; 64];
+    let mut i: usize = 0;
+    while i < n {
+        let d = fields::digest_at(f, 74 + 32 * i);
+        out[i] = d;
+        i += 1;
+    }
+    out
+}
+
+fn path(r: Registers, f: &[u8]) -> Outcome
+    requires { ⌜ getD (now f) 65 0 ≤ 64 ⌝ }
+    ensures { λ o. ⌜ o ≡ outcome r 1 (At.pathAt (now (f .entry))) ⌝ }
+{
+    let n = fields::byte_at(f, 65) as usize;
+    let s = siblings(f, n);
+    tree_kinds::path(
+        r,
+        fields::digest_at(f, 1),
+        fields::digest_at(f, 33),
+        n,
+        fields::number_at(f, 66),
+        s,
+    )
+}
+
+fn witness(r: Registers, f: &[u8]) -> Outcome
+    ensures { λ o. ⌜ o ≡ outcome r 2 (At.witnessAt (now (f .entry))) ⌝ }
+{
+    tree_kinds::witness(
+        r,
+        fields::digest_at(f, 1),
+        fields::digest_at(f, 33),
+        fields::digest_at(f, 65),
+    )
+}
+
+fn join(r: Registers, f: &[u8]) -> Outcome
+    ensures { λ o. ⌜ o ≡ outcome r 3 (At.joinAt (now (f .entry))) ⌝ }
+{
+    tree_kinds::join(
+        r,
+        fields::digest_at(f, 1),
+        fields::digest_at(f, 33),
+        fields::digest_at(f, 65),
+        fields::digest_at(f, 97),
+        fields::digest_at(f, 129),
+        fields::digest_at(f, 161),
+        fields::digest_at(f, 193),
+        fields::digest_at(f, 225),
+    )
+}
+
+fn pair(r: Registers, f: &[u8]) -> Outcome
+    ensures { λ o. ⌜ o ≡ outcome r 4 (At.pairAt (now (f .entry))) ⌝ }
+{
+    tree_kinds::pair(
+        r,
+        fields::digest_at(f, 1),
+        fields::digest_at(f, 33),
+        fields::digest_at(f, 65),
+        fields::digest_at(f, 97),
+        fields::digest_at(f, 129),
+        fields::digest_at(f, 161),
+        fields::digest_at(f, 193),
+        fields::digest_at(f, 225),
+        fields::digest_at(f, 257),
+        fields::digest_at(f, 289),
+    )
+}
+
+fn raise(r: Registers, f: &[u8]) -> Outcome
+    ensures { λ o. ⌜ o ≡ outcome r 5 (At.raiseAt (now (f .entry))) ⌝ }
+{
+    tree_kinds::raise(
+        r,
+        fields::digest_at(f, 1),
+        fields::digest_at(f, 33),
+        fields::digest_at(f, 65),
+        fields::digest_at(f, 97),
+        fields::digest_at(f, 129),
+        fields::digest_at(f, 161),
+        fields::digest_at(f, 193),
+        fields::digest_at(f, 225),
+        fields::digest_at(f, 257),
+        fields::digest_at(f, 289),
+    )
+}
+
+fn swap(r: Registers, f: &[u8]) -> Outcome
+    ensures { λ o. ⌜ o ≡ outcome r 6 (At.swapAt (now (f .entry))) ⌝ }
+{
+    ring_kinds::swap(
+        r,
+        fields::digest_at(f, 1),
+        fields::digest_at(f, 33),
+        fields::digest_at(f, 65),
+        fields::digest_at(f, 97),
+        fields::digest_at(f, 129),
+    )
+}
+
+fn first(r: Registers, f: &[u8]) -> Outcome
+    ensures { λ o. ⌜ o ≡ outcome r 7 (At.firstAt (now (f .entry))) ⌝ }
+{
+    ring_kinds::first(r, item_at(f, 1))
+}
+
+fn place(r: Registers, f: &[u8]) -> Outcome
+    ensures { λ o. ⌜ o ≡ outcome r 8 (At.placeAt (now (f .entry))) ⌝ }
+{
+    ring_kinds::place(
+        r,
+        item_at(f, 1),
+        item_at(f, 9),
+        item_at(f, 17),
+        fields::digest_at(f, 25),
+        fields::digest_at(f, 57),
+        fields::digest_at(f, 89),
+        fields::digest_at(f, 121),
+    )
+}
+
+fn turn(r: Registers, f: &[u8]) -> Outcome
+    ensures { λ o. ⌜ o ≡ outcome r 9 (At.turnAt (now (f .entry))) ⌝ }
+{
+    ring_kinds::turn(
+        r,
+        fields::digest_at(f, 1),
+        fields::digest_at(f, 33),
+        fields::digest_at(f, 65),
+    )
+}
+
+fn chain(r: Registers, f: &[u8]) -> Outcome
+    ensures { λ o. ⌜ o ≡ outcome r 10 (At.chainAt (now (f .entry))) ⌝ }
+{
+    ring_kinds::chain(
+        r,
+        fields::digest_at(f, 1),
+        fields::digest_at(f, 33),
+        fields::digest_at(f, 65),
+        fields::digest_at(f, 97),
+        fields::digest_at(f, 129),
+    )
+}
+
+fn adopt(r: Registers, f: &[u8]) -> Outcome
+    ensures { λ o. ⌜ o ≡ outcome r 11 (At.adoptAt (now (f .entry))) ⌝ }
+{
+    list_kinds::adopt(
+        r,
+        fields::digest_at(f, 1),
+        fields::digest_at(f, 33),
+        fields::digest_at(f, 65),
+    )
+}
+
+fn set_record(r: Registers, f: &[u8]) -> Outcome
+    ensures { λ o. ⌜ o ≡ outcome r 12 (At.setRecordAt (now (f .entry))) ⌝ }
+{
+    list_kinds::set_record(
+        r,
+        item_at(f, 1),
+        item_at(f, 9),
+        record_at(f, 17),
+        Kilograms(fields::number_at(f, 49)),
+        Millimetres(fields::number_at(f, 57)),
+        Rigging(fields::number_at(f, 65)),
+        fields::digest_at(f, 73),
+        fields::digest_at(f, 105),
+        fields::digest_at(f, 137),
+    )
+}
+
+fn clear_record(r: Registers, f: &[u8]) -> Outcome
+    ensures { λ o. ⌜ o ≡ outcome r 13 (At.clearRecordAt (now (f .entry))) ⌝ }
+{
+    list_kinds::clear_record(
+        r,
+        item_at(f, 1),
+        item_at(f, 9),
+        record_at(f, 17),
+        fields::digest_at(f, 49),
+        fields::digest_at(f, 81),
+        fields::digest_at(f, 113),
+    )
+}
+
+fn ask(r: Registers, f: &[u8]) -> Outcome
+    ensures { λ o. ⌜ o ≡ outcome r 14 (At.askAt (now (f .entry))) ⌝ }
+{
+    list_kinds::ask(
+        r,
+        item_at(f, 1),
+        item_at(f, 9),
+        item_at(f, 17),
+        record_at(f, 25),
+        fields::digest_at(f, 57),
+        fields::digest_at(f, 89),
+    )
+}
+
+fn ask_none(r: Registers, f: &[u8]) -> Outcome
+    ensures { λ o. ⌜ o ≡ outcome r 15 (At.askNoneAt (now (f .entry))) ⌝ }
+{
+    list_kinds::ask_none(r, item_at(f, 1))
+}
+
+fn unlock(r: Registers, f: &[u8]) -> Outcome
+    ensures { λ o. ⌜ o ≡ outcome r 16 (At.unlockAt (now (f .entry))) ⌝ }
+{
+    list_kinds::unlock(r, fields::digest_at(f, 1))
+}
+
+// The function of each kind, for a frame that passes its own checks.
+fn dispatch(r: Registers, f: &[u8]) -> Outcome
+    requires { ⌜ (known (kindOf (now f)) ≡ true) × (fits (now f) ≡ true) ⌝ }
+    ensures { λ o. ⌜ o ≡ outcome r (kindOf (now (f .entry))) (requestOf (now (f .entry))) ⌝ }
+{
+    let kind = fields::byte_at(f, 0);
+    match kind {
+        1 => path(r, f),
+        2 => witness(r, f),
+        3 => join(r, f),
+        4 => pair(r, f),
+        5 => raise(r, f),
+        6 => swap(r, f),
+        7 => first(r, f),
+        8 => place(r, f),
+        9 => turn(r, f),
+        10 => chain(r, f),
+        11 => adopt(r, f),
+        12 => set_record(r, f),
+        13 => clear_record(r, f),
+        14 => ask(r, f),
+        15 => ask_none(r, f),
+        16 => unlock(r, f),
+        _ => replies::refuse(r, 2, 0),
+    }
+}
+
+// One frame, well formed or not.
+pub fn answer(r: Registers, frame: &[u8]) -> Outcome
+    ensures { λ o. ⌜ o ≡ outcomeOf (answerFrame sha256 r (now (frame .entry))) ⌝ }
+{
+    let refused = lines::frame_refusal(frame);
+    if refused != 0 {
+        return replies::refuse(r, refused, 0);
+    }
+    dispatch(r, frame)
+}

@@ -1,0 +1,17 @@
+-- The first test decides, or else the gap.
+use borrow.Author.Tests.{eq-eqb, ne-eqb}
+use borrow.Author.Needs.{needs}
+use Rattle.list_kinds.proofs.meets.Statement.{statement}
+use Rattle.list_kinds.proofs.meets.Tie as tie
+
+returns : tie.Need-returns
+returns c = rw (eq-eqb _ _ (c .if1 .taken))
+
+in-gap-requires : tie.Need-in-gap-requires
+in-gap-requires c κs = search needs
+
+returns-2 : tie.Need-returns-2
+returns-2 c = rw (ne-eqb _ _ (c .before .if1 .left)) (c .in-gap .ensures)
+
+pub meets-spec : {M : Type 1} → statement M
+meets-spec = tie.close (tie.spec returns in-gap-requires returns-2)

@@ -1,0 +1,55 @@
+-- Two puts, the second where the first ended, fill the array.
+use mathlib.Core.Path.{refl, ap, _∙_}
+use mathlib.Core.List.{List, [], _++_, append-nil}
+use Prim.Native.Nat.{ℕ}
+use native.Mathlib.Omega.{arith}
+use lib.ListN.{length, replicate}
+use Rattle.seqs.specs.Bytes.{be64-length}
+use Rattle.seqs.specs.Over.{Front, front-next}
+use borrow.Author.Needs.{needs}
+use Rattle.list_kinds.proofs.root_and_counter.Statement.{statement}
+use Rattle.list_kinds.proofs.root_and_counter.Tie as tie
+
+spelled-requires : tie.Need-spelled-requires
+spelled-requires c κs = search needs
+
+slice-aggregate-put : tie.Need-slice-aggregate-put
+slice-aggregate-put c = search needs
+
+slice-aggregate-put-2 : tie.Need-slice-aggregate-put-2
+slice-aggregate-put-2 c = search needs
+
+put-requires : tie.Need-put-requires
+put-requires c κs = search needs
+
+slice-aggregate-put-3 : tie.Need-slice-aggregate-put-3
+slice-aggregate-put-3 c = search needs
+
+slice-aggregate-put-4 : tie.Need-slice-aggregate-put-4
+slice-aggregate-put-4 c = search needs
+
+put-requires-2 : tie.Need-put-requires-2
+put-requires-2 c κs = search needs
+
+returns : tie.Need-returns
+returns c =
+    let s = c .before .before .before .before .before .before .before .before .before in
+    let n = c .before .before .before .before .before .before .before .before .spelled in
+    let d : List ℕ = replicate 40 0 in
+    let r0 : Front d d [] 0 = record { here = refl; long = refl } in
+    let r1 = front-next (c .before .before .before .before .before .put .last .0) (s .args .t1) 32 32 r0 (c .before .before .before .before .before .put .ensures) (s .good .0 .1 .0 .1) refl (omega arith) in
+    let r2 = front-next (c .before .put2 .last .0) (n .result) 8 40 r1 (c .before .put2 .ensures) (ap length (n .ensures) ∙ be64-length _) refl (omega arith) in
+    r2 .here ∙ append-nil _ ∙ ap (λ (l : List ℕ). s .args .t1 ++ l) (n .ensures)
+
+pub root-and-counter-spec : {M : Type 1} → statement M
+root-and-counter-spec =
+    tie.close
+    (tie.spec
+    spelled-requires
+    slice-aggregate-put
+    slice-aggregate-put-2
+    put-requires
+    slice-aggregate-put-3
+    slice-aggregate-put-4
+    put-requires-2
+    returns)

@@ -1,0 +1,51 @@
+-- Tag and item stand one behind the other.
+use mathlib.Core.Path.{refl, ap, _∙_}
+use mathlib.Core.List.{List, [], _∷_, _++_}
+use Prim.Native.Nat.{ℕ}
+use native.Mathlib.Omega.{arith}
+use lib.ListN.{length, replicate}
+use Rattle.seqs.specs.Bytes.{be64-length}
+use Rattle.seqs.specs.Over.{Front, front-next}
+use Rattle.replies.specs.Outcomes.{acceptance}
+use borrow.Author.Needs.{needs}
+use Rattle.list_kinds.proofs.say_listed.Statement.{statement}
+use Rattle.list_kinds.proofs.say_listed.Tie as tie
+
+spelled-requires : tie.Need-spelled-requires
+spelled-requires c κs = search needs
+
+slice-aggregate-put : tie.Need-slice-aggregate-put
+slice-aggregate-put c = search needs
+
+slice-aggregate-put-2 : tie.Need-slice-aggregate-put-2
+slice-aggregate-put-2 c = search needs
+
+put-requires : tie.Need-put-requires
+put-requires c κs = search needs
+
+slice-aggregate-accept : tie.Need-slice-aggregate-accept
+slice-aggregate-accept c = search needs
+
+accept-requires : tie.Need-accept-requires
+accept-requires c κs = search needs
+
+returns : tie.Need-returns
+returns c =
+    let a = c .before .before .before .before .before .before .before .args in
+    let n = c .before .before .before .before .before .before .spelled in
+    let d : List ℕ = replicate 9 2 in
+    let r0 : Front d d (2 ∷ []) 1 = record { here = refl; long = refl } in
+    let r1 = front-next (c .before .before .before .put .last .0) (n .result) 8 9 r0 (c .before .before .before .put .ensures) (ap length (n .ensures) ∙ be64-length _) refl (omega arith) in
+    c .accept .ensures ∙ ap (λ (l : List ℕ). acceptance (a .r) 0x8e l (a .blocks)) (r1 .here ∙ (λ i. 2 ∷ (n .ensures i ++ [])))
+
+pub say-listed-spec : {M : Type 1} → statement M
+say-listed-spec =
+    tie.close
+    (tie.spec
+    spelled-requires
+    slice-aggregate-put
+    slice-aggregate-put-2
+    put-requires
+    slice-aggregate-accept
+    accept-requires
+    returns)

@@ -1,0 +1,426 @@
+// Kinds 0b to 10: the module's own root, counter and secret, and questions. Each function answers one request that was
+// read already, on registers by value.
+use digests::Digest;
+use paper::Finding;
+use paper::Item;
+use paper::Kilograms;
+use paper::Millimetres;
+use paper::Record;
+use paper::Registers;
+use paper::Revision;
+use paper::Rigging;
+use replies::Outcome;
+ghost use mathlib.Core.Path.{_≡_};
+ghost use mathlib.Core.List.{[], _∷_, _++_};
+ghost use Rattle.seqs.specs.Bytes.{be64};
+ghost use Rattle.sha256.specs.Hash.{sha256};
+ghost use Rattle.paper.specs.Strings as S;
+ghost use Rattle.paper.specs.Requests as Q;
+ghost use lib.Dec.{eqb};
+ghost use Rattle.seqs.specs.Choose.{either};
+ghost use Rattle.paper.specs.Refusals.{leafOf, leafForms, changeForms, changeSays};
+ghost use Rattle.paper.specs.Answers.{findingOf, findingBytes};
+ghost use Rattle.digests.specs.Worked.{worked};
+ghost use Rattle.replies.specs.Outcomes.{outcome, acceptance};
+
+// 10 open: hands in the secret, once.
+pub fn unlock(r: Registers, secret: [u8; 32]) -> Outcome
+    ensures { λ o. ⌜ o ≡ outcome r 16 (Q.unlock secret) ⌝ }
+{
+    if r.opened {
+        return replies::refuse(r, 14, 0);
+    }
+    if fields::is_zero(secret) {
+        return replies::refuse(r, 12, 0);
+    }
+    let root = r.root;
+    let c = r.counter;
+    let nothing = [0u8; 0];
+    replies::accept(
+        Registers {
+            root: root,
+            counter: c,
+            secret: secret,
+            opened: true,
+        },
+        0x90,
+        &nothing,
+        0,
+    )
+}
+
+// 0f ask of none: q of an empty list.
+pub fn ask_none(r: Registers, q: Item) -> Outcome
+    ensures { λ o. ⌜ o ≡ outcome r 15 (Q.askNone (q .0)) ⌝ }
+{
+    if !r.opened {
+        return replies::refuse(r, 13, 0);
+    }
+    if q.0 == 0 {
+        return replies::refuse(r, 4, 0);
+    }
+    let z = [0u8; 32];
+    let root = r.root;
+    if !fields::same_digest(z, root) {
+        return replies::refuse(r, 10, 0);
+    }
+    let n = fields::spelled(q.0);
+    replies::accept(r, 0x8f, &n, 0)
+}
+
+// 0b adopt: y is the root and m is EI(y,next); the root becomes next.
+pub fn adopt(r: Registers, y: [u8; 32], next: [u8; 32], m: [u8; 32]) -> Outcome
+    ensures { λ o. ⌜ o ≡ outcome r 11 (Q.adopt y next m) ⌝ }
+{
+    if !r.opened {
+        return replies::refuse(r, 13, 0);
+    }
+    let k = r.secret;
+    let u = digests::ei(y, next, k);
+    let ub = u.bytes;
+    if !fields::same_digest(ub, m) {
+        return replies::refuse(r, 8, 2);
+    }
+    let root = r.root;
+    if !fields::same_digest(y, root) {
+        return replies::refuse(r, 10, 2);
+    }
+    let counter = r.counter;
+    replies::accept(
+        Registers {
+            root: next,
+            counter: counter,
+            secret: k,
+            opened: r.opened,
+        },
+        0x8b,
+        &next,
+        2,
+    )
+}
+
+// What a set or a clear answers: the new root and the new counter.
+fn root_and_counter(yn: [u8; 32], c: u64) -> [u8; 40]
+    ensures { λ r. ⌜ r ≡ yn ++ be64 c ⌝ }
+{
+    let mut s = [0u8; 40];
+    let n = fields::spelled(c);
+    fields::put(&mut s, 0, &yn);
+    fields::put(&mut s, 32, &n);
+    s
+}
+
+// U1 of a leaf whose record changes, with all that is formed for it.
+fn change_memo(
+    secret: [u8; 32],
+    a: Item,
+    b: Item,
+    old: Record,
+    new: Record,
+    y: [u8; 32],
+    yn: [u8; 32],
+) -> Digest
+    ensures { λ d. ⌜ d ≡ worked (S.digest sha256 (S.memo (changeSays sha256 (a .0) (b .0) old new y yn) secret)) (changeForms sha256 (a .0) (b .0) old new ++ (S.memo (changeSays sha256 (a .0) (b .0) old new y yn) secret ∷ [])) ⌝ }
+{
+    let h = digests::record_hash(old);
+    let hb = h.bytes;
+    let x = digests::leaf(a, b, hb);
+    let xb = x.bytes;
+    let hn = digests::record_hash(new);
+    let hnb = hn.bytes;
+    let xn = digests::leaf(a, b, hnb);
+    let xnb = xn.bytes;
+    let u = digests::u1(xb, y, xnb, yn, secret);
+    let ub = u.bytes;
+    Digest {
+        bytes: ub,
+        blocks: h.blocks + hn.blocks + 5,
+    }
+}
+
+// 0c set: y is the root and m is U1 of the leaf whose record becomes [c+1, v2, v3, v4]; the root becomes y' and the
+// counter c+1.
+pub fn set_record(
+    r: Registers,
+    a: Item,
+    b: Item,
+    old: Record,
+    v2: Kilograms,
+    v3: Millimetres,
+    v4: Rigging,
+    y: [u8; 32],
+    yn: [u8; 32],
+    m: [u8; 32],
+) -> Outcome
+    ensures { λ o. ⌜ o ≡ outcome r 12 (Q.setTo (a .0) (b .0) old (v2 .0) (v3 .0) (v4 .0) y yn m) ⌝ }
+{
+    if !r.opened {
+        return replies::refuse(r, 13, 0);
+    }
+    if a.0 == 0 {
+        return replies::refuse(r, 4, 0);
+    }
+    if b.0 == 0 {
+        return replies::refuse(r, 4, 0);
+    }
+    if digests::is_malformed(old) {
+        return replies::refuse(r, 5, 0);
+    }
+    let c = r.counter;
+    if c.0 == 18446744073709551615 {
+        return replies::refuse(r, 7, 0);
+    }
+    let cn = c.0 + 1;
+    let new = Record {
+        revision: Revision(cn),
+        mass: v2,
+        offset: v3,
+        rigging: v4,
+    };
+    let k = r.secret;
+    let u = change_memo(k, a, b, old, new, y, yn);
+    let ub = u.bytes;
+    if !fields::same_digest(ub, m) {
+        return replies::refuse(r, 8, u.blocks);
+    }
+    let root = r.root;
+    if !fields::same_digest(y, root) {
+        return replies::refuse(r, 10, u.blocks);
+    }
+    let says = root_and_counter(yn, cn);
+    replies::accept(
+        Registers {
+            root: yn,
+            counter: Revision(cn),
+            secret: k,
+            opened: r.opened,
+        },
+        0x8c,
+        &says,
+        u.blocks,
+    )
+}
+
+// 0d clear: y is the root and m is U1 of the leaf whose record becomes empty; the root becomes `cleared` and the
+// counter c+1.
+pub fn clear_record(
+    r: Registers,
+    a: Item,
+    b: Item,
+    old: Record,
+    y: [u8; 32],
+    cleared: [u8; 32],
+    m: [u8; 32],
+) -> Outcome
+    ensures { λ o. ⌜ o ≡ outcome r 13 (Q.clear (a .0) (b .0) old y cleared m) ⌝ }
+{
+    if !r.opened {
+        return replies::refuse(r, 13, 0);
+    }
+    if a.0 == 0 {
+        return replies::refuse(r, 4, 0);
+    }
+    if b.0 == 0 {
+        return replies::refuse(r, 4, 0);
+    }
+    if digests::is_malformed(old) {
+        return replies::refuse(r, 5, 0);
+    }
+    if digests::is_blank(old) {
+        return replies::refuse(r, 11, 0);
+    }
+    let count = r.counter;
+    if count.0 == 18446744073709551615 {
+        return replies::refuse(r, 7, 0);
+    }
+    let cn = count.0 + 1;
+    let new = Record {
+        revision: Revision(0),
+        mass: Kilograms(0),
+        offset: Millimetres(0),
+        rigging: Rigging(0),
+    };
+    let k = r.secret;
+    let u = change_memo(k, a, b, old, new, y, cleared);
+    let ub = u.bytes;
+    if !fields::same_digest(ub, m) {
+        return replies::refuse(r, 8, u.blocks);
+    }
+    let root = r.root;
+    if !fields::same_digest(y, root) {
+        return replies::refuse(r, 10, u.blocks);
+    }
+    let says = root_and_counter(cleared, cn);
+    replies::accept(
+        Registers {
+            root: cleared,
+            counter: Revision(cn),
+            secret: k,
+            opened: r.opened,
+        },
+        0x8d,
+        &says,
+        u.blocks,
+    )
+}
+
+// An ask's reply: exactly one of three findings, and the blocks worked for it.
+struct AskReply {
+    finding: Finding,
+    blocks: u64,
+}
+
+fn find(q: Item, a: Item, b: Item, rec: Record, blocks: u64) -> AskReply
+    ensures { λ o. ⌜ (o .finding ≡ findingOf (q .0) (a .0) (b .0) rec) × (o .blocks ≡ blocks) ⌝ }
+{
+    if q.0 == a.0 {
+        if digests::is_blank(rec) {
+            return AskReply {
+                finding: Finding::Listed(a),
+                blocks: blocks,
+            };
+        }
+        return AskReply {
+            finding: Finding::Recorded(a, rec),
+            blocks: blocks,
+        };
+    }
+    AskReply {
+        finding: Finding::Gap(a, b),
+        blocks: blocks,
+    }
+}
+
+// A record's four numbers.
+fn record_bytes(rec: Record) -> [u8; 32]
+    ensures { λ r. ⌜ r ≡ S.spread (S.nums (S.numbers rec)) ⌝ }
+{
+    let v = rec.revision;
+    let m = rec.mass;
+    let o = rec.offset;
+    let g = rec.rigging;
+    let mut s = [0u8; 32];
+    let n1 = fields::spelled(v.0);
+    let n2 = fields::spelled(m.0);
+    let n3 = fields::spelled(o.0);
+    let n4 = fields::spelled(g.0);
+    fields::put(&mut s, 0, &n1);
+    fields::put(&mut s, 8, &n2);
+    fields::put(&mut s, 16, &n3);
+    fields::put(&mut s, 24, &n4);
+    s
+}
+
+fn say_recorded(r: Registers, a: Item, rec: Record, blocks: u64) -> Outcome
+    ensures { λ o. ⌜ o ≡ acceptance r 0x8e (findingBytes (Finding.Recorded a rec)) blocks ⌝ }
+{
+    let mut s = [1u8; 41];
+    let na = fields::spelled(a.0);
+    let nr = record_bytes(rec);
+    fields::put(&mut s, 1, &na);
+    fields::put(&mut s, 9, &nr);
+    replies::accept(r, 0x8e, &s, blocks)
+}
+
+fn say_listed(r: Registers, a: Item, blocks: u64) -> Outcome
+    ensures { λ o. ⌜ o ≡ acceptance r 0x8e (findingBytes (Finding.Listed a)) blocks ⌝ }
+{
+    let mut s = [2u8; 9];
+    let na = fields::spelled(a.0);
+    fields::put(&mut s, 1, &na);
+    replies::accept(r, 0x8e, &s, blocks)
+}
+
+fn say_gap(r: Registers, a: Item, b: Item, blocks: u64) -> Outcome
+    ensures { λ o. ⌜ o ≡ acceptance r 0x8e (findingBytes (Finding.Gap a b)) blocks ⌝ }
+{
+    let mut s = [3u8; 17];
+    let na = fields::spelled(a.0);
+    let nb = fields::spelled(b.0);
+    fields::put(&mut s, 1, &na);
+    fields::put(&mut s, 9, &nb);
+    replies::accept(r, 0x8e, &s, blocks)
+}
+
+// An ask's reply as its bytes.
+fn say(r: Registers, o: AskReply) -> Outcome
+    ensures { λ s. ⌜ s ≡ acceptance r 0x8e (findingBytes (o .finding)) (o .blocks) ⌝ }
+{
+    let blocks = o.blocks;
+    let f = o.finding;
+    match f {
+        Finding::Recorded(a, rec) => say_recorded(r, a, rec, blocks),
+        Finding::Listed(a) => say_listed(r, a, blocks),
+        Finding::Gap(a, b) => say_gap(r, a, b, blocks),
+    }
+}
+
+// V1 of a leaf, with all that is formed for it.
+fn leaf_memo(secret: [u8; 32], a: Item, b: Item, rec: Record, y: [u8; 32]) -> Digest
+    ensures { λ d. ⌜ d ≡ worked (S.digest sha256 (S.memo (S.v1 (S.digest sha256 (leafOf sha256 (a .0) (b .0) rec)) y) secret)) (leafForms sha256 (a .0) (b .0) rec ++ (S.memo (S.v1 (S.digest sha256 (leafOf sha256 (a .0) (b .0) rec)) y) secret ∷ [])) ⌝ }
+{
+    let h = digests::record_hash(rec);
+    let hb = h.bytes;
+    let x = digests::leaf(a, b, hb);
+    let xb = x.bytes;
+    let v = digests::v1(xb, y, secret);
+    let vb = v.bytes;
+    Digest {
+        bytes: vb,
+        blocks: h.blocks + 3,
+    }
+}
+
+// Whether q is a, or in the gap behind it.
+fn meets(q: Item, a: Item, b: Item) -> bool
+    ensures { λ r. ⌜ r ≡ either (eqb (q .0) (a .0)) (S.inGap (q .0) (a .0) (b .0)) ⌝ }
+{
+    if q.0 == a.0 {
+        return true;
+    }
+    digests::in_gap(q, a, b)
+}
+
+// 0e ask: y is the root and m is V1 of the leaf; answers what the leaf says of q.
+pub fn ask(
+    r: Registers,
+    q: Item,
+    a: Item,
+    b: Item,
+    rec: Record,
+    y: [u8; 32],
+    m: [u8; 32],
+) -> Outcome
+    ensures { λ o. ⌜ o ≡ outcome r 14 (Q.ask (q .0) (a .0) (b .0) rec y m) ⌝ }
+{
+    if !r.opened {
+        return replies::refuse(r, 13, 0);
+    }
+    if q.0 == 0 {
+        return replies::refuse(r, 4, 0);
+    }
+    if a.0 == 0 {
+        return replies::refuse(r, 4, 0);
+    }
+    if b.0 == 0 {
+        return replies::refuse(r, 4, 0);
+    }
+    if digests::is_malformed(rec) {
+        return replies::refuse(r, 5, 0);
+    }
+    if !meets(q, a, b) {
+        return replies::refuse(r, 6, 0);
+    }
+    let k = r.secret;
+    let u = leaf_memo(k, a, b, rec, y);
+    let ub = u.bytes;
+    if !fields::same_digest(ub, m) {
+        return replies::refuse(r, 8, u.blocks);
+    }
+    let root = r.root;
+    if !fields::same_digest(y, root) {
+        return replies::refuse(r, 10, u.blocks);
+    }
+    let o = find(q, a, b, rec, u.blocks);
+    say(r, o)
+}
