@@ -6,13 +6,12 @@ use mathlib.Core.List.{List, [], _∷_, _++_}
 use Prim.Native.Nat.{ℕ, _+_, _*_, _≤_, _<_}
 use native.Mathlib.Omega.{arith}
 use borrow.Author.Tests.{eqb-true, leb-true}
-use lib.Dec.{eqb, leb}
 use lib.ListN.{length, getD, drop}
-use Rattle.seqs.specs.Choose.{pick, both, both-true, opposite}
+use Rattle.seqs.specs.Choose.{pick, both-true, opposite}
 use Rattle.sha256.specs.Hash.{sha256}
 use Rattle.paper.specs.declared.Registers.{Registers}
 use Rattle.paper.specs.Requests as Q
-use Rattle.paper.specs.Requests.{kindOf, known, fits, kinds, requestOf}
+use Rattle.paper.specs.Requests.{kindOf, known, fits, requestOf}
 use Rattle.paper.specs.Refusals.{Check, order, needs, those, Verdict, refused, judge}
 use Rattle.paper.specs.Module.{refusalOf, frameChecks, told, answerFrame}
 use Rattle.paper.proofs.Frames as F

@@ -1,8 +1,5 @@
 -- The fields are those at their places; the siblings are as many as the frame's byte says.
-use mathlib.Core.Path.{_≡_, ap, _∙_}
-use mathlib.Core.List.{List}
-use lib.ListN.{getD, take}
-use Rattle.paper.specs.Strings.{Dig}
+use mathlib.Core.Path.{ap, _∙_}
 use Rattle.paper.specs.Requests as Q
 use Rattle.replies.specs.Outcomes.{outcome}
 use Rattle.kernel.specs.Places.{siblingsAt, pathAt}

@@ -1,12 +1,11 @@
 -- After i turns the first i siblings stand in the array.
 use mathlib.Core.Path.{_≡_, refl, sym, ap, _∙_}
-use mathlib.Core.List.{List, [], _∷_, _++_}
-use Prim.Native.Nat.{ℕ, suc, _-_, _≤_}
+use mathlib.Core.List.{[], _∷_, _++_}
+use Prim.Native.Nat.{ℕ, _-_, _≤_}
 use native.Mathlib.Numerals.{add-one}
 use native.Mathlib.Omega.{arith}
 use lib.ListN.{length, take, set, length-set}
 use lib.Seq.{take-suc-set}
-use Rattle.paper.specs.Strings.{Dig}
 use Rattle.kernel.specs.Places as At
 use Rattle.kernel.proofs.Places.{siblings-next}
 use borrow.Author.Needs.{needs}

@@ -1,0 +1,231 @@
+-- From a line to its frame: refusals 15 and 1 and the reader's, and the frame's answer where there is none.
+use mathlib.Core.Path.{_≡_, refl, sym, ap, _∙_}
+use mathlib.Core.Bool.{Bool, true, false, true≢false}
+use mathlib.Core.List.{List, [], _∷_, _++_}
+use Prim.Native.Nat.{ℕ, _+_, _-_, _*_, _≤_, _<_}
+use native.Mathlib.Omega.{arith}
+use borrow.Author.Tests.{eqb-true, eqb-false, lt-ltb, le-ltb, le-leb}
+use native.Mathlib.Decide.{decLe}
+use denote.Enum.Declared.{tagOf}
+use lib.Dec.{eqb}
+use lib.ListN.{length, take, drop, replicate, length-append, length-drop}
+use lib.Seq.{take-at}
+use Rattle.seqs.specs.Choose.{pick}
+use Rattle.seqs.specs.Over.{written, written-fits}
+use Rattle.sha256.specs.Hash.{sha256}
+use Rattle.hex.specs.Hex.{bytesOf, lineOf}
+use Rattle.hex.proofs.Laws.{bytes-length, line-length}
+use Rattle.paper.specs.declared.Registers.{Registers}
+use Rattle.paper.specs.Strings.{Str}
+use Rattle.paper.specs.Requests as Q
+use Rattle.paper.specs.Requests.{kindOf, requestOf}
+use Rattle.paper.specs.Refusals.{Check, order, roomFor, isHex, needs, those, applies, formedAt, Verdict, refused, judge}
+use Rattle.paper.specs.Module.{refusalOf, frameChecks, readRefusal, Told, told, answerFrame, answerTo, replyLine, spaceAfter}
+use Rattle.lines.specs.declared.Read.{Read}
+use Rattle.lines.specs.declared.Read.the-variants.{Frame, Refused}
+use Rattle.lines.proofs.Read.{the-type}
+use Rattle.lines.specs.Reading.{readOf, replyLength}
+use Rattle.lines.proofs.Outcomes.{too-long}
+use Rattle.lines.proofs.Fitting.{read-by, frame-by}
+use Rattle.replies.specs.declared.Outcome.{Outcome}
+use Rattle.replies.specs.Outcomes.{outcomeOf, refusal}
+use Rattle.kernel.proofs.Frames.{frame-refused}
+use Rattle.module.specs.Work.{numberOf}
+
+-- ── checks 15 and 1, before those of the frame ──
+
+-- no request needs another check of number 15 or 1
+others : (s : Registers) (q : Q.Request) → (those 15 (needs sha256 s q) ≡ []) × (those 1 (needs sha256 s q) ≡ [])
+others s (Q.path x x′ sides l) = (refl, refl)
+others s (Q.witness x y m) = (refl, refl)
+others s (Q.join x y x′ y′ m1 z z′ m2) = (refl, refl)
+others s (Q.pair x1 y x1′ y′ m1 x2 z x2′ z′ m2) = (refl, refl)
+others s (Q.raise x1 x2 y x1′ x2′ y′ m1 z z′ m2) = (refl, refl)
+others s (Q.swap x1 x2 y y′ m) = (refl, refl)
+others s (Q.first A) = (refl, refl)
+others s (Q.place A A′ B′ ω y y′ m) = (refl, refl)
+others s (Q.turn x y m) = (refl, refl)
+others s (Q.chain x y m1 z m2) = (refl, refl)
+others s (Q.adopt y y′ m) = (refl, refl)
+others s (Q.setTo A A′ old v2 v3 v4 y y′ m) = (refl, refl)
+others s (Q.clear A A′ old y y′ m) = (refl, refl)
+others s (Q.ask q A A′ r y m) = (refl, refl)
+others s (Q.askNone q) = (refl, refl)
+others s (Q.unlock k) = (refl, refl)
+
+module _ (s : Registers) (line : List ℕ) where
+  abbrev f : List ℕ
+  f = bytesOf line
+
+  abbrev judged : Verdict → Told
+  judged v = told sha256 s (kindOf f) (requestOf f) v
+
+  pub without-room : (space : ℕ) → space < 195 → answerTo sha256 s line space ≡ judged (refused 15 [])
+  unfolding answerTo
+  without-room space h = rw (lt-ltb space 195 h, others s (requestOf f) .0) refl
+
+  -- where there is room it does not matter how much
+  pub with-room : (space : ℕ) → 195 ≤ space → answerTo sha256 s line space ≡ answerTo sha256 s line 195
+  unfolding answerTo
+  with-room space h = rw (le-ltb space 195 h) refl
+
+  not-hex : isHex line .fails ≡ true → answerTo sha256 s line 195 ≡ judged (refused 1 [])
+  unfolding answerTo
+  not-hex h = rw (h, others s (requestOf f) .0, others s (requestOf f) .1) refl
+
+  is-hex : isHex line .fails ≡ false → answerTo sha256 s line 195 ≡ answerFrame sha256 s f
+  unfolding answerTo answerFrame
+  is-hex h = rw (h, others s (requestOf f) .0, others s (requestOf f) .1) refl
+
+-- ── the reader, with a space of 2,122 bytes ──
+
+-- a line of digits has a frame that fits the space
+short-by : (line : List ℕ) → Dec (length line ≤ 4244) → isHex line .fails ≡ false → length line ≤ 4244
+short-by line (yes h) e = h
+short-by line (no h) e = absurd (true≢false (sym (too-long line (omega arith)) ∙ e))
+
+module _ (line : List ℕ) where
+  abbrev n : ℕ
+  n = readRefusal line 2122
+
+  short : isHex line .fails ≡ false → length (bytesOf line) ≤ 2122
+  short e = let h = short-by line (decLe (length line) 4244) e in omega (arith, bytes-length line)
+
+  -- it refuses 1, or what the frame's own checks say
+  read-1 : isHex line .fails ≡ true → n ≡ 1
+  read-1 e = read-by line 2122 ∙ rw e refl
+
+  read-own : isHex line .fails ≡ false → n ≡ refusalOf (judge (2 ∷ 3 ∷ []) [] (frameChecks (bytesOf line)))
+  read-own e =
+      read-by line 2122 ∙ rw (e, le-ltb 2122 (length (bytesOf line)) (short e)) refl ∙ sym (frame-by (bytesOf line))
+
+-- what is found tells the refusal
+number-by : (k l m : ℕ) (b : Bool) → eqb m 0 ≡ b → numberOf (pick b (Frame k l) (Refused m)) ≡ m
+unfolding numberOf
+number-by k l m true e = sym (eqb-true m 0 e)
+number-by k l m false e = refl
+
+refused-by : (k l m : ℕ) (b : Bool) → eqb m 0 ≡ b → tagOf the-type (pick b (Frame k l) (Refused m)) ≡ 1 → m ≡ 0 → ⊥
+refused-by k l m true e t z = omega arith
+refused-by k l m false e t z = eqb-false m 0 e z
+
+sizeOf : Read → ℕ
+sizeOf (Frame k l) = l
+sizeOf (Refused m) = 0
+
+found-by : (k l m : ℕ) (b : Bool) → eqb m 0 ≡ b → (k′ l′ : ℕ) → Frame k′ l′ ≡ pick b (Frame k l) (Refused m) → (m ≡ 0) × (l′ ≡ l)
+unfolding sizeOf
+found-by k l m true e k′ l′ h = (eqb-true m 0 e, ap sizeOf h)
+found-by k l m false e k′ l′ h = let t = ap (tagOf the-type) h in absurd (omega arith)
+
+module _ (s : Registers) (line : List ℕ) where
+  -- a line that the reader refuses
+  refused-line : (b : Bool) → isHex line .fails ≡ b → (m : ℕ) → m ≡ readRefusal line 2122 → (m ≡ 0 → ⊥)
+      → refusal s m 0 ≡ outcomeOf (answerTo sha256 s line 195)
+  refused-line true h m e z =
+      ap (λ (i : ℕ). refusal s i 0) (e ∙ read-1 line h) ∙ sym (ap outcomeOf (not-hex s line h))
+  refused-line false h m e z =
+      frame-refused s (bytesOf line) m (e ∙ read-own line h) z ∙ sym (ap outcomeOf (is-hex s line h))
+
+  pub line-refused : (got : Read) → got ≡ readOf line 2122 → tagOf the-type got ≡ 1 → (m : ℕ) → m ≡ numberOf got
+      → refusal s m 0 ≡ outcomeOf (answerTo sha256 s line 195)
+  unfolding readOf
+  line-refused got e t m h =
+      let i : ℕ = readRefusal line 2122 in
+      let k = kindOf (bytesOf line) in
+      let l = length (bytesOf line) in
+      let r = h ∙ ap numberOf e ∙ number-by k l i (eqb i 0) refl in
+      refused-line (isHex line .fails) refl m r
+      (λ z. refused-by k l i (eqb i 0) refl (ap (tagOf the-type) (sym e) ∙ t) (sym r ∙ z))
+
+  -- a line that it reads
+  read-line-by : (b : Bool) → isHex line .fails ≡ b → readRefusal line 2122 ≡ 0
+      → (length (bytesOf line) ≤ 2122) × (answerFrame sha256 s (bytesOf line) ≡ answerTo sha256 s line 195)
+  read-line-by true h z = let w = read-1 line h in absurd (omega arith)
+  read-line-by false h z = (short line h, sym (is-hex s line h))
+
+  pub line-read : (k l : ℕ) → Frame k l ≡ readOf line 2122
+      → (l ≡ length (bytesOf line)) × (length (bytesOf line) ≤ 2122) × (answerFrame sha256 s (bytesOf line) ≡ answerTo sha256 s line 195)
+  unfolding readOf
+  line-read k l e =
+      let i : ℕ = readRefusal line 2122 in
+      let w = found-by (kindOf (bytesOf line)) (length (bytesOf line)) i (eqb i 0) refl k l e in
+      let v = read-line-by (isHex line .fails) refl (w .0) in
+      (w .1, v .0, v .1)
+
+  -- the part of the space that is the frame
+  pub framed : (d : List ℕ) (l : ℕ) → l ≡ length (bytesOf line) → take (l - 0) (bytesOf line ++ drop l d) ≡ bytesOf line
+  framed d l e = take-at (bytesOf line) (drop l d) (l - 0) (omega arith)
+
+-- ── the reply's line ──
+
+-- no number but 15 is told as 15
+abbrev notAmong : ℕ → List ℕ → Bool
+notAmong m [] = true
+notAmong m (i ∷ l) = pick (eqb i m) false (notAmong m l)
+
+both-of : (a b : Bool) → pick a false b ≡ true → (pick a false true ≡ true) × (b ≡ true)
+both-of true b h = absurd (true≢false (sym h))
+both-of false b h = (refl, h)
+
+module _ (s : Registers) (k : ℕ) (q : Q.Request) where
+  abbrev number : Verdict → ℕ
+  number v = told sha256 s k q v .refusal
+
+  never-step : (i : ℕ) (fs : List Str) (v : Verdict) (b c : Bool) → eqb i 15 ≡ c → pick c false true ≡ true
+      → eqb (number v) 15 ≡ false → eqb (number (pick b (refused i fs) v)) 15 ≡ false
+  never-step i fs v true true e h r = absurd (true≢false (sym h))
+  never-step i fs v true false e h r = e
+  never-step i fs v false c e h r = r
+
+  never : (ns : List ℕ) (fs : List Str) (cs : List Check) → notAmong 15 ns ≡ true → eqb (number (judge ns fs cs)) 15 ≡ false
+  never [] fs cs h = refl
+  never (i ∷ ns) fs cs h =
+      let p = both-of (eqb i 15) (notAmong 15 ns) h in
+      never-step i (formedAt i cs ++ fs) (judge ns (formedAt i cs ++ fs) cs) (applies i cs) (eqb i 15) refl (p .0) (never ns (formedAt i cs ++ fs) cs (p .1))
+
+pub not-15 : (s : Registers) (line : List ℕ) → eqb (answerTo sha256 s line 195 .refusal) 15 ≡ false
+unfolding answerTo
+not-15 s line =
+    let f = bytesOf line in
+    let q = requestOf f in
+    rw (others s q .0) (never s (kindOf f) q (drop 1 order) [] (roomFor 195 195 ∷ isHex line ∷ (frameChecks f ++ needs sha256 s q)) refl)
+
+module _ (t : Told) (o : Outcome) (e : o ≡ outcomeOf t) (long : length (o .reply) ≡ 97) where
+  -- the reply lies whole in the outcome's bytes
+  pub said-short : o .length ≤ 97
+  said-short =
+      let h : length (o .reply) ≡ length (t .says ++ drop (length (t .says)) (replicate 97 0)) = ap (λ (x : Outcome). length (x .reply)) e in
+      let l : o .length ≡ length (t .says) = ap (λ (x : Outcome). x .length) e in
+      let sum = length-append (t .says) (drop (length (t .says)) (replicate 97 0)) in
+      let rest = length-drop {A = ℕ} (length (t .says)) (replicate 97 0) in
+      omega arith
+
+  pub said : take (o .length - 0) (o .reply) ≡ t .says
+  said =
+      let l : o .length ≡ length (t .says) = ap (λ (x : Outcome). x .length) e in
+      ap (λ (x : Outcome). take (o .length - 0) (x .reply)) e ∙ take-at (t .says) _ (o .length - 0) (omega arith)
+
+  -- its line is written where there is room
+  module _ (d : List ℕ) (room : 195 ≤ length d) (r : eqb (t .refusal) 15 ≡ false) where
+    line-is : replyLine t ≡ lineOf (t .says)
+    line-is = rw r refl
+
+    fits-room : length (lineOf (t .says)) ≤ length d
+    fits-room =
+        let l : o .length ≡ length (t .says) = ap (λ (x : Outcome). x .length) e in
+        let m = said-short in
+        omega (arith, line-length (t .says))
+
+    pub written-after : (d′ : List ℕ) → d′ ≡ written (lineOf (take (o .length - 0) (o .reply))) d → d′ ≡ spaceAfter t d
+    written-after d′ h =
+        h ∙ ap (λ (l : List ℕ). written (lineOf l) d) said ∙ written-fits (lineOf (t .says)) d _ refl fits-room
+        ∙ sym (ap (λ (l : List ℕ). l ++ drop (length l) d) line-is)
+
+    pub length-after : (n : ℕ) → n ≡ replyLength (take (o .length - 0) (o .reply)) (length d) → n ≡ length (replyLine t)
+    unfolding replyLength
+    length-after n h =
+        let l = line-length (t .says) in
+        let f = fits-room in
+        h ∙ ap (λ (x : List ℕ). replyLength x (length d)) said
+        ∙ rw (le-leb (2 * length (t .says) + 1) (length d) (omega arith)) (sym (ap length line-is ∙ l))

@@ -1,0 +1,69 @@
+-- Without room nothing is written; with room the line's outcome is told, and its bytes are the reply's line.
+use mathlib.Core.Path.{_≡_, sym, ap, _∙_}
+use Prim.Native.Nat.{_≤_}
+use native.Mathlib.Omega.{arith}
+use lib.ListN.{length, length-map}
+use Rattle.sha256.specs.Hash.{sha256}
+use Rattle.paper.specs.Module.{Told, answerTo, spaceAfter}
+use Rattle.module.specs.declared.Answered.{Answered}
+use Rattle.module.specs.Answering.{answeredOf}
+use Rattle.module.proofs.Laws.{without-room, with-room, not-15, said-short, written-after, length-after}
+use borrow.Author.Needs.{needs}
+use Rattle.module.proofs.answer.Statement.{statement}
+use Rattle.module.proofs.answer.Tie as tie
+
+returns : tie.Need-returns
+returns c =
+    let a = c .before .before .before .args in
+    let e = without-room (a .r) (a .line .now) (length (a .reply .now)) (c .if1 .taken) in
+    (sym (ap answeredOf e), sym (ap (λ (t : Told). spaceAfter t (a .reply .now)) e))
+
+answer-line-requires : tie.Need-answer-line-requires
+answer-line-requires c κs = search needs
+
+sub-write-reply : tie.Need-sub-write-reply
+sub-write-reply c = search needs
+
+part-write-reply-start : tie.Need-part-write-reply-start
+part-write-reply-start c = search needs
+
+part-write-reply-end : tie.Need-part-write-reply-end
+part-write-reply-end c =
+    let a = c .before .before .before .before .before .before .before .args in
+    let o = c .before .before .before .answer-line in
+    let long = sym (length-map (o .result .reply) _) ∙ o .ok .1 .1 .1 .0 .1 .0 .1 in
+    omega (arith, said-short (answerTo sha256 (a .r) (a .line .now) 195) (o .result) (o .ensures) long, long)
+
+write-reply-requires : tie.Need-write-reply-requires
+write-reply-requires c κs = search needs
+
+same-length : tie.Need-same-length
+same-length c = search needs
+
+returns-2 : tie.Need-returns-2
+returns-2 c =
+    let a = c .before .before .before .before .before .before .before .before .before .before .before .before .args in
+    let l = a .line .now in
+    let d = a .reply .now in
+    let o = c .before .before .before .before .before .before .before .before .answer-line in
+    let long = sym (length-map (o .result .reply) _) ∙ o .ok .1 .1 .1 .0 .1 .0 .1 in
+    let room : 195 ≤ length d = c .before .before .before .before .before .before .before .before .before .if1 .left in
+    let t = answerTo sha256 (a .r) l 195 in
+    let n = length-after t (o .result) (o .ensures) long d room (not-15 (a .r) l) _ (c .before .before .write-reply .ensures .0) in
+    let e = with-room (a .r) l (length d) room in
+    let said : _≡_ {A = Answered} _ (answeredOf t) =
+    λ i. record { registers = o .ensures i .registers; refused = o .ensures i .refused; length = n i; blocks = o .ensures i .blocks } in
+    (said ∙ sym (ap answeredOf e), written-after t (o .result) (o .ensures) long d room (not-15 (a .r) l) _ (c .before .before .write-reply .ensures .1) ∙ sym (ap (λ (x : Told). spaceAfter x d) e))
+
+pub answer-spec : {M : Type 1} → statement M
+answer-spec =
+    tie.close
+    (tie.spec
+    returns
+    answer-line-requires
+    sub-write-reply
+    part-write-reply-start
+    part-write-reply-end
+    write-reply-requires
+    same-length
+    returns-2)

@@ -1,0 +1,83 @@
+-- What the reader refuses is the line's refusal; else the frame it wrote is the line's, and is answered.
+use mathlib.Core.Path.{sym, ap, _∙_}
+use mathlib.Core.List.{List}
+use Prim.Native.Nat.{ℕ, _-_}
+use native.Mathlib.Omega.{arith}
+use lib.ListN.{take, replicate}
+use Rattle.sha256.specs.Hash.{sha256}
+use Rattle.paper.specs.Module.{answerFrame}
+use Rattle.lines.specs.Reading.{frameAfter}
+use Rattle.replies.specs.Outcomes.{outcomeOf}
+use Rattle.module.proofs.Laws.{line-refused, line-read, framed}
+use borrow.Author.Needs.{needs}
+use Rattle.module.proofs.answer_line.Statement.{statement}
+use Rattle.module.proofs.answer_line.Tie as tie
+
+slice-aggregate-read-line : tie.Need-slice-aggregate-read-line
+slice-aggregate-read-line c = search needs
+
+read-line-requires : tie.Need-read-line-requires
+read-line-requires c κs = search needs
+
+enum-known-got : tie.Need-enum-known-got
+enum-known-got c = search needs
+
+enum-told : tie.Need-enum-told
+enum-told c = search needs
+
+number-requires : tie.Need-number-requires
+number-requires c κs = search needs
+
+refuse-requires : tie.Need-refuse-requires
+refuse-requires c κs = search needs
+
+returns : tie.Need-returns
+returns c =
+    let a = c .before .before .before .before .before .before .before .before .args in
+    let read = c .before .before .before .before .before .read-line in
+    c .refuse .ensures ∙ line-refused (a .r) (a .line .now) _ (read .ensures .0) (c .before .before .before .match .keys2) _ (c .before .number .ensures)
+
+sub-answer : tie.Need-sub-answer
+sub-answer c = search needs
+
+part-answer-start : tie.Need-part-answer-start
+part-answer-start c = search needs
+
+part-answer-end : tie.Need-part-answer-end
+part-answer-end c =
+    let a = c .before .before .before .before .before .before .before .before .args in
+    let read = c .before .before .before .before .before .read-line in
+    let found = line-read (a .r) (a .line .now) _ _ (sym (c .before .before .got .given .1) ∙ read .ensures .0) in
+    omega (arith, found .0, found .1, read .kept .1 .0)
+
+answer-requires : tie.Need-answer-requires
+answer-requires c κs = search needs
+
+returns-2 : tie.Need-returns-2
+returns-2 c =
+    let a = c .before .before .before .before .before .before .before .before .before .before .args in
+    let read = c .before .before .before .before .before .before .before .read-line in
+    let n = c .before .before .before .before .got .given .0 .1 .0 in
+    let got = c .before .before .before .before .got .given .1 in
+    let found = line-read (a .r) (a .line .now) _ _ (sym got ∙ read .ensures .0) in
+    let here = read .ensures .1 ∙ ap (λ o. frameAfter o (a .line .now) (replicate 2122 0)) got in
+    c .answer .ensures
+    ∙ ap (λ (f : List ℕ). outcomeOf (answerFrame sha256 (a .r) f)) (ap (take (n - 0)) here ∙ framed (a .r) (a .line .now) (replicate 2122 0) n (found .0))
+    ∙ ap outcomeOf (found .2)
+
+pub answer-line-spec : {M : Type 1} → statement M
+answer-line-spec =
+    tie.close
+    (tie.spec
+    slice-aggregate-read-line
+    read-line-requires
+    enum-known-got
+    enum-told
+    number-requires
+    refuse-requires
+    returns
+    sub-answer
+    part-answer-start
+    part-answer-end
+    answer-requires
+    returns-2)

@@ -1,0 +1,9 @@
+-- What private functions promise one another.
+use Prim.Native.Nat.{ℕ}
+use Rattle.lines.specs.declared.Read.{Read}
+use Rattle.lines.specs.declared.Read.the-variants.{Frame, Refused}
+
+-- the number of a refusal, 0 where there is none
+unfoldable pub numberOf : Read → ℕ
+numberOf (Frame k n) = 0
+numberOf (Refused n) = n
