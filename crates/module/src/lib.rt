@@ -3,12 +3,11 @@ use lines::Read;
 use paper::Registers;
 use replies::Outcome;
 ghost use mathlib.Core.Path.{_≡_};
-ghost use lib.ListN.{length};
 ghost use Rattle.sha256.specs.Hash.{sha256};
 ghost use Rattle.paper.specs.Refusals.{replyRoom};
-ghost use Rattle.paper.specs.Module.{answerTo, spaceAfter};
+ghost use Rattle.paper.specs.Module.{answerTo};
 ghost use Rattle.replies.specs.Outcomes.{outcomeOf};
-ghost use Rattle.module.specs.Answering.{answeredOf};
+ghost use Rattle.module.specs.Laws.{Promised};
 ghost use Rattle.module.specs.Work.{numberOf};
 
 // What a line came to: the registers after it, the number of its refusal or 0, how many bytes of the reply space are
@@ -44,8 +43,7 @@ fn answer_line(r: Registers, line: &[u8]) -> Outcome
 
 // One line, whatever it holds, on registers by value: the reply's line goes over the front of the reply space.
 pub fn answer(r: Registers, line: &[u8], reply: &mut [u8]) -> Answered
-    ensures { λ o. ⌜ o ≡ answeredOf (answerTo sha256 r (now (line .entry)) (length (now (reply .entry)))) ⌝ }
-    ensures { λ _. ⌜ now (reply .exit) ≡ spaceAfter (answerTo sha256 r (now (line .entry)) (length (now (reply .entry)))) (now (reply .entry)) ⌝ }
+    ensures { λ o. ⌜ Promised r (now (line .entry)) (now (reply .entry)) o (now (reply .exit)) ⌝ }
 {
     if reply.len() < 195 {
         return Answered {

@@ -16,7 +16,7 @@ returns : tie.Need-returns
 returns c =
     let a = c .before .before .before .args in
     let e = without-room (a .r) (a .line .now) (length (a .reply .now)) (c .if1 .taken) in
-    (sym (ap answeredOf e), sym (ap (λ (t : Told). spaceAfter t (a .reply .now)) e))
+    record { returned = sym (ap answeredOf e); left = sym (ap (λ (t : Told). spaceAfter t (a .reply .now)) e) }
 
 answer-line-requires : tie.Need-answer-line-requires
 answer-line-requires c κs = search needs
@@ -53,7 +53,11 @@ returns-2 c =
     let e = with-room (a .r) l (length d) room in
     let said : _≡_ {A = Answered} _ (answeredOf t) =
     λ i. record { registers = o .ensures i .registers; refused = o .ensures i .refused; length = n i; blocks = o .ensures i .blocks } in
-    (said ∙ sym (ap answeredOf e), written-after t (o .result) (o .ensures) long d room (not-15 (a .r) l) _ (c .before .before .write-reply .ensures .1) ∙ sym (ap (λ (x : Told). spaceAfter x d) e))
+    record {
+      returned = said ∙ sym (ap answeredOf e);
+      left =
+          written-after t (o .result) (o .ensures) long d room (not-15 (a .r) l) _ (c .before .before .write-reply .ensures .1) ∙ sym (ap (λ (x : Told). spaceAfter x d) e);
+    }
 
 pub answer-spec : {M : Type 1} → statement M
 answer-spec =
