@@ -1,18 +1,31 @@
 -- The statements of `specs/Laws`.
 use mathlib.Core.Path.{_≡_, refl, sym, ap, _∙_}
 use mathlib.Core.List.{List, [], _∷_, _++_}
-use Prim.Native.Nat.{ℕ}
-use lib.ListN.{length, drop}
-use lib.Seq.{drop-at}
+use mathlib.Core.Bool.{Bool, true, false}
+use mathlib.Core.Logic.{_⊎_, inl, inr}
+use Prim.Native.Nat.{ℕ, zero, suc, _≤_}
+use native.Mathlib.Omega.{arith}
+use borrow.Author.Tests.{le-ltb, ne-eqb}
+use lib.ListN.{length, take, drop, replicate}
+use lib.Seq.{drop-at, take-all}
+use Rattle.seqs.specs.Bytes.{Bytes, allZero}
 use Rattle.sha256.specs.Hash.{sha256}
-use Rattle.hex.specs.Hex.{bytesOf}
+use Rattle.sha256.proofs.Digests.{sha256-length}
+use Rattle.hex.specs.Hex.{bytesOf, digitsOf, allDigits}
+use Rattle.hex.proofs.Laws.{bytes-of-digits, digits-all, digits-length}
 use Rattle.paper.specs.declared.Registers.{Registers}
 use Rattle.paper.specs.Requests as Q
-use Rattle.paper.specs.Requests.{kindOf, requestOf}
+use Rattle.paper.specs.Requests.{kinds, known, fits, kindOf, requestOf}
 use Rattle.paper.specs.Refusals.{order, roomFor, replyRoom, isHex, needs, Verdict, refused, passed, judge}
-use Rattle.paper.specs.Module.{frameChecks, Told, told, answerTo, replyLine}
+use Rattle.paper.specs.Module.{frameChecks, Told, told, answerFrame, answerTo, replyLine}
+use Rattle.paper.specs.Strings.{Dig, cost}
+use Rattle.paper.specs.ByHand.{unopened}
+use Rattle.paper.proofs.Ceilings.{ceilings}
+use Rattle.paper.proofs.Older.{older-gets-8}
+use Rattle.module.proofs.Laws.{with-room, is-hex}
 use Rattle.module.specs.declared.Answered.{Answered}
-use Rattle.module.specs.Laws.{RefusalKeeps, OnlyTheReply, OneOutcome}
+use Rattle.module.specs.Answering.{answeredOf}
+use Rattle.module.specs.Laws.{RefusalKeeps, OnlyTheReply, OneOutcome, UnderTheCeiling, OlderMemorandum, Opens, RefusingBreaks}
 
 kept : (s : Registers) (k : ℕ) (q : Q.Request) (v : Verdict) → (told sha256 s k q v .refusal ≡ 0 → ⊥)
     → told sha256 s k q v .after ≡ s
@@ -42,3 +55,64 @@ only-the-reply s line space after o p =
 
 pub one-outcome : OneOutcome
 one-outcome s line space after after′ o o′ p p′ = (p .returned ∙ sym (p′ .returned), p .left ∙ sym (p′ .left))
+
+pub under-the-ceiling : UnderTheCeiling
+under-the-ceiling s line space after o p =
+    let e : o .blocks ≡ cost (answerTo sha256 s line (length space) .formed) = ap (λ (x : Answered). x .blocks) (p .returned) in
+    omega (arith, e, ceilings sha256 .line s line (length space))
+
+pub older-memorandum : OlderMemorandum
+older-memorandum s₀ s line space₀ space after o l p =
+    by-law (older-gets-8 sha256 sha256-length s₀ s line (length space₀) (length space) l)
+  where
+    by-law : {C : Type 0} → (answerTo sha256 s line (length space) .refusal ≡ 8) ⊎ C → (o .refused ≡ 8) ⊎ C
+    by-law (inl e) = inl (ap (λ (x : Answered). x .refused) (p .returned) ∙ e)
+    by-law (inr c) = inr c
+
+-- ── opening ──
+
+module _ (k : Dig) (n : length k ≡ 32) (bs : Bytes k) (z : allZero k ≡ false) where
+  abbrev frame : List ℕ
+  frame = 0x10 ∷ k
+
+  frame-bytes : bytesOf (digitsOf frame) ≡ frame
+  frame-bytes = bytes-of-digits frame (omega arith, bs)
+
+  is-line : isHex (digitsOf frame) .fails ≡ false
+  is-line =
+      let l : length (digitsOf frame) ≡ 66 = omega (arith, digits-length frame) in
+      rw (l, digits-all frame (omega arith, bs)) refl
+
+  is-frame : fits frame ≡ true
+  unfolding fits kinds
+  is-frame = rw n refl
+
+  is-request : requestOf frame ≡ Q.unlock k
+  unfolding requestOf kinds
+  is-request = ap Q.unlock (take-all 32 k (omega arith))
+
+  framed : (s : Registers) → s .opened ≡ false → answerFrame sha256 s frame ≡ told sha256 s 0x10 (Q.unlock k) (passed [])
+  unfolding answerFrame known kinds
+  framed s h = rw (is-frame, is-request, z, h) refl
+
+  accepted : (s : Registers) (space : ℕ) → s .opened ≡ false → replyRoom ≤ space
+      → answerTo sha256 s (digitsOf frame) space ≡ told sha256 s 0x10 (Q.unlock k) (passed [])
+  accepted s space h r =
+      with-room s (digitsOf frame) space r ∙ is-hex s (digitsOf frame) is-line ∙ ap (answerFrame sha256 s) frame-bytes ∙ framed s h
+
+pub opens : Opens
+opens s k space after o h n bs z r p =
+    let e : o ≡ answeredOf (told sha256 s 0x10 (Q.unlock k) (passed [])) = p .returned ∙ ap answeredOf (accepted k n bs z s (length space) h r) in
+    (ap (λ (x : Answered). x .refused) e, ap (λ (x : Answered). x .registers) e)
+
+ones : (n : ℕ) → Bytes (replicate n 1)
+ones zero = tt
+ones (suc n) = (omega arith, ones n)
+
+pub refusing-breaks : RefusingBreaks
+refusing-breaks m keeps refuses =
+    let s : Registers = unopened in
+    let k : Dig = replicate 32 1 in
+    let line = digitsOf (0x10 ∷ k) in
+    let space : List ℕ = replicate 195 0 in
+    refuses s line space (opens s k space (m s line space .1) (m s line space .0) refl refl (ones 32) refl (omega arith) (keeps s line space) .0)

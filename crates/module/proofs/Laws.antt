@@ -73,7 +73,7 @@ module _ (s : Registers) (line : List ℕ) where
   unfolding answerTo
   not-hex h = rw (h, others s (requestOf f) .0, others s (requestOf f) .1) refl
 
-  is-hex : isHex line .fails ≡ false → answerTo sha256 s line 195 ≡ answerFrame sha256 s f
+  pub is-hex : isHex line .fails ≡ false → answerTo sha256 s line 195 ≡ answerFrame sha256 s f
   unfolding answerTo answerFrame
   is-hex h = rw (h, others s (requestOf f) .0, others s (requestOf f) .1) refl
 

@@ -1,8 +1,10 @@
 -- What the module's answer to a line returns, beside what it leaves in the reply space.
 use lib.ListN.{length}
+use Rattle.paper.specs.declared.Registers.{Registers}
 use Rattle.paper.specs.Strings.{cost}
 use Rattle.paper.specs.Module.{Told, replyLine}
 use Rattle.module.specs.declared.Answered.{Answered}
+use Rattle.module.specs.declared.Replied.{Replied}
 
 -- the registers, the number of a refusal or 0, the length of the reply's line, and the blocks worked
 abbrev pub answeredOf : Told → Answered
@@ -13,3 +15,7 @@ answeredOf t =
       length = length (replyLine t);
       blocks = cost (t .formed);
     }
+
+-- what came back where the registers lie, beside those registers
+abbrev pub answered : Registers → Replied → Answered
+answered s o = record { registers = s; refused = o .refused; length = o .length; blocks = o .blocks }

@@ -1,11 +1,21 @@
 -- What follows from the contract of `answer` alone, as statements; `proofs/Follows` shows them.
 use mathlib.Core.Path.{_≡_}
-use mathlib.Core.List.{List}
-use Prim.Native.Nat.{ℕ}
+use mathlib.Core.Bool.{false}
+use mathlib.Core.List.{List, _∷_, _++_}
+use mathlib.Core.Logic.{_⊎_}
+use Prim.Native.Nat.{ℕ, _≤_}
 use lib.ListN.{length, drop}
+use Rattle.seqs.specs.Bytes.{Bytes, allZero}
+use Rattle.hex.specs.Hex.{bytesOf, digitsOf}
 use Rattle.sha256.specs.Hash.{sha256}
 use Rattle.paper.specs.declared.Registers.{Registers}
+use Rattle.paper.specs.Requests.{requestOf}
+use Rattle.paper.specs.Refusals.{replyRoom}
+use Rattle.paper.specs.Answers.{unlocked}
 use Rattle.paper.specs.Module.{answerTo, spaceAfter}
+use Rattle.paper.specs.Ceilings.{ceiling}
+use Rattle.paper.specs.Collisions.{Collision}
+use Rattle.paper.specs.Older.{Later}
 use Rattle.module.specs.declared.Answered.{Answered}
 use Rattle.module.specs.Answering.{answeredOf}
 
@@ -28,3 +38,29 @@ OnlyTheReply = (s : Registers) (line space after : List ℕ) (o : Answered) → 
 abbrev pub OneOutcome : Type 0
 OneOutcome = (s : Registers) (line space after after′ : List ℕ) (o o′ : Answered)
     → Promised s line space o after → Promised s line space o′ after′ → (o ≡ o′) × (after ≡ after′)
+
+-- "Each request's count has a stated ceiling"
+abbrev pub UnderTheCeiling : Type 0
+UnderTheCeiling = (s : Registers) (line space after : List ℕ) (o : Answered) → Promised s line space o after
+    → o .blocks ≤ ceiling (requestOf (bytesOf line))
+
+-- "A memorandum made for a set at an older c gets 8", or two strings formed then and now have one digest
+abbrev pub OlderMemorandum : Type 0
+OlderMemorandum = (s₀ s : Registers) (line space₀ space after : List ℕ) (o : Answered)
+    → Later sha256 s₀ s line (length space₀) (length space) → Promised s line space o after
+    → (o .refused ≡ 8)
+    ⊎ Collision sha256
+    (answerTo sha256 s₀ line (length space₀) .formed ++ answerTo sha256 s line (length space) .formed)
+
+-- a module that is not open takes any secret that is not all zero
+abbrev pub Opens : Type 0
+Opens = (s : Registers) (secret space after : List ℕ) (o : Answered) → s .opened ≡ false
+    → length secret ≡ 32 → Bytes secret → allZero secret ≡ false → replyRoom ≤ length space
+    → Promised s (digitsOf (0x10 ∷ secret)) space o after
+    → (o .refused ≡ 0) × (o .registers ≡ unlocked s secret)
+
+-- "a module that refuses everything" keeps no such promise
+abbrev pub RefusingBreaks : Type 0
+RefusingBreaks = (m : Registers → (line space : List ℕ) → Answered × List ℕ)
+    → ((s : Registers) (line space : List ℕ) → Promised s line space (m s line space .0) (m s line space .1))
+    → ((s : Registers) (line space : List ℕ) → m s line space .0 .refused ≡ 0 → ⊥) → ⊥

@@ -7,6 +7,7 @@ ghost use Rattle.sha256.specs.Hash.{sha256};
 ghost use Rattle.paper.specs.Refusals.{replyRoom};
 ghost use Rattle.paper.specs.Module.{answerTo};
 ghost use Rattle.replies.specs.Outcomes.{outcomeOf};
+ghost use Rattle.module.specs.Answering.{answered};
 ghost use Rattle.module.specs.Laws.{Promised};
 ghost use Rattle.module.specs.Work.{numberOf};
 
@@ -14,6 +15,14 @@ ghost use Rattle.module.specs.Work.{numberOf};
 // its reply, and the blocks worked.
 pub struct Answered {
     pub registers: Registers,
+    pub refused: u8,
+    pub length: usize,
+    pub blocks: u64,
+}
+
+// What a line came to where the registers lie: the number of its refusal or 0, how many bytes of the reply space are
+// its reply, and the blocks worked.
+pub struct Replied {
     pub refused: u8,
     pub length: usize,
     pub blocks: u64,
@@ -63,5 +72,18 @@ pub fn answer(r: Registers, line: &[u8], reply: &mut [u8]) -> Answered
         refused: o.refused,
         length: n,
         blocks: o.blocks,
+    }
+}
+
+// One line on registers where they lie: the answer by value, and what it gave stored.
+pub fn answer_here(regs: &mut Registers, line: &[u8], reply: &mut [u8]) -> Replied
+    ensures { λ o. ⌜ Promised (now (regs .entry)) (now (line .entry)) (now (reply .entry)) (answered (now (regs .exit)) o) (now (reply .exit)) ⌝ }
+{
+    let a = answer(*regs, line, reply);
+    *regs = a.registers;
+    Replied {
+        refused: a.refused,
+        length: a.length,
+        blocks: a.blocks,
     }
 }

@@ -1,3 +1,6 @@
 pub mod ByHand
+pub mod Ceilings
 pub mod Encoding
 pub mod Frames
+pub mod Older
+pub mod Verdicts

@@ -3,4 +3,7 @@ pub mod Requests
 pub mod Refusals
 pub mod Answers
 pub mod Module
+pub mod Ceilings
+pub mod Collisions
+pub mod Older
 pub mod ByHand

@@ -1,0 +1,81 @@
+-- What a verdict says: its number is the first that applies, and the strings of every check that it comes to are formed.
+use mathlib.Core.Path.{_≡_, refl}
+use mathlib.Core.Bool.{Bool, true, false}
+use mathlib.Core.List.{List, [], _∷_, _++_, List·Memᴰ, List·Memᴰ·head, List·Memᴰ·tail}
+use Prim.Native.Nat.{ℕ}
+use Rattle.seqs.specs.Choose.{pick}
+use Rattle.paper.specs.declared.Registers.{Registers}
+use Rattle.paper.specs.Strings.{Dig, Str}
+use Rattle.paper.specs.Requests.{Request}
+use Rattle.paper.specs.Refusals.{Check, applies, formedAt, Verdict, refused, passed, judge}
+use Rattle.paper.specs.Answers.{answer}
+use Rattle.paper.specs.Module.{told}
+
+-- ── membership ──
+
+pub in-left : (x : Str) (a b : List Str) → List·Memᴰ x a → List·Memᴰ x (a ++ b)
+in-left x a b (List·Memᴰ·head e) = List·Memᴰ·head e
+in-left x (t ∷ a) b (List·Memᴰ·tail m) = List·Memᴰ·tail (in-left x a b m)
+
+pub in-right : (x : Str) (a b : List Str) → List·Memᴰ x b → List·Memᴰ x (a ++ b)
+in-right x [] b m = m
+in-right x (t ∷ a) b m = List·Memᴰ·tail (in-right x a b m)
+
+-- ── a verdict's number, and its strings ──
+
+abbrev pub firstOf : List ℕ → List Check → ℕ
+firstOf [] cs = 0
+firstOf (n ∷ ns) cs = pick (applies n cs) n (firstOf ns cs)
+
+abbrev pub formedBy : Verdict → List Str
+formedBy (refused n fs) = fs
+formedBy (passed fs) = fs
+
+module _ (D : List ℕ → Dig) (s : Registers) (k : ℕ) (q : Request) where
+  number-step : (b : Bool) (n : ℕ) (fs : List Str) (v : Verdict) (m : ℕ) → told D s k q v .refusal ≡ m
+      → told D s k q (pick b (refused n fs) v) .refusal ≡ pick b n m
+  number-step true n fs v m h = refl
+  number-step false n fs v m h = h
+
+  pub number-is : (ns : List ℕ) (fs : List Str) (cs : List Check) → told D s k q (judge ns fs cs) .refusal ≡ firstOf ns cs
+  number-is [] fs cs = refl
+  number-is (n ∷ ns) fs cs =
+      number-step (applies n cs) n (formedAt n cs ++ fs) (judge ns (formedAt n cs ++ fs) cs) (firstOf ns cs) (number-is ns (formedAt n cs ++ fs) cs)
+
+  pub in-told : (x : Str) (v : Verdict) → List·Memᴰ x (formedBy v) → List·Memᴰ x (told D s k q v .formed)
+  in-told x (refused n fs) m = m
+  in-told x (passed fs) m = in-right x (answer D s q .forms) fs m
+
+-- strings formed stay so
+stays-step : (x : Str) (b : Bool) (n : ℕ) (fs : List Str) (v : Verdict) → List·Memᴰ x fs → List·Memᴰ x (formedBy v)
+    → List·Memᴰ x (formedBy (pick b (refused n fs) v))
+stays-step x true n fs v h i = h
+stays-step x false n fs v h i = i
+
+pub stays : (x : Str) (ns : List ℕ) (fs : List Str) (cs : List Check) → List·Memᴰ x fs → List·Memᴰ x (formedBy (judge ns fs cs))
+stays x [] fs cs m = m
+stays x (n ∷ ns) fs cs m =
+    let here = in-right x (formedAt n cs) fs m in
+    stays-step x (applies n cs) n (formedAt n cs ++ fs) (judge ns (formedAt n cs ++ fs) cs) here (stays x ns (formedAt n cs ++ fs) cs here)
+
+-- the checks of some numbers are passed
+abbrev pub Passed : List ℕ → List Check → Type 0
+Passed [] cs = Unit {0}
+Passed (n ∷ ns) cs = (applies n cs ≡ false) × Passed ns cs
+
+pub split-passed : (ns rest : List ℕ) (cs : List Check) → Passed (ns ++ rest) cs → Passed ns cs × Passed rest cs
+split-passed [] rest cs h = (tt, h)
+split-passed (n ∷ ns) rest cs h = let w = split-passed ns rest cs (h .1) in ((h .0, w .0), w .1)
+
+-- behind checks that are passed, the strings of the next one are formed
+pub reached : (x : Str) (ns : List ℕ) (n : ℕ) (rest : List ℕ) (fs : List Str) (cs : List Check) → Passed ns cs
+    → List·Memᴰ x (formedAt n cs) → List·Memᴰ x (formedBy (judge (ns ++ (n ∷ rest)) fs cs))
+reached x [] n rest fs cs h m =
+    let here = in-left x (formedAt n cs) fs m in
+    stays-step x (applies n cs) n (formedAt n cs ++ fs) (judge rest (formedAt n cs ++ fs) cs) here (stays x rest (formedAt n cs ++ fs) cs here)
+reached x (i ∷ ns) n rest fs cs h m = rw (h .0) (reached x ns n rest (formedAt i cs ++ fs) cs (h .1) m)
+
+-- the number is a later one's
+pub passed-number : (ns rest : List ℕ) (cs : List Check) → Passed ns cs → firstOf (ns ++ rest) cs ≡ firstOf rest cs
+passed-number [] rest cs h = refl
+passed-number (n ∷ ns) rest cs h = rw (h .0) (passed-number ns rest cs (h .1))
