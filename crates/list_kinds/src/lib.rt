@@ -77,12 +77,12 @@ pub fn adopt(r: Registers, y: [u8; 32], next: [u8; 32], m: [u8; 32]) -> Outcome
     }
     let k = r.secret;
     let u = digests::ei(y, next, k);
-    let ub = u.bytes;
-    if !fields::same_digest(ub, m) {
+    let fitting = u.bytes;
+    if !fields::same_digest(fitting, m) {
         return replies::refuse(r, 8, 2);
     }
-    let root = r.root;
-    if !fields::same_digest(y, root) {
+    let held = r.root;
+    if !fields::same_digest(y, held) {
         return replies::refuse(r, 10, 2);
     }
     let counter = r.counter;
@@ -417,8 +417,8 @@ pub fn ask(
     if !fields::same_digest(ub, m) {
         return replies::refuse(r, 8, u.blocks);
     }
-    let root = r.root;
-    if !fields::same_digest(y, root) {
+    let present = r.root;
+    if !fields::same_digest(y, present) {
         return replies::refuse(r, 10, u.blocks);
     }
     let o = find(q, a, b, rec, u.blocks);
