@@ -394,7 +394,7 @@ fn ask_none(module: &mut dyn Module, q: u64) -> Result<Finding, Fault> {
 }
 
 /// The finding in the fields of a reply to ask.
-fn finding_of(fields: &[u8]) -> Option<Finding> {
+pub(crate) fn finding_of(fields: &[u8]) -> Option<Finding> {
     let (number, rest) = fields.split_first()?;
     let numbers = numbers(rest)?;
     match (number, numbers.as_slice()) {
@@ -430,7 +430,7 @@ fn exchange_frames(module: &mut dyn Module, request: &Request) -> Result<Vec<u8>
 }
 
 /// Fields that are all digests.
-fn digests(fields: &[u8]) -> Option<Vec<Digest>> {
+pub(crate) fn digests(fields: &[u8]) -> Option<Vec<Digest>> {
     split(fields)
 }
 

@@ -130,7 +130,7 @@ fn check_open(registers: &Registers, request: &Request) -> Result<(), u8> {
 }
 
 /// Refusal 4: item number 0 is reserved, wherever one stands.
-fn check_numbers(request: &Request) -> Result<(), u8> {
+pub(crate) fn check_numbers(request: &Request) -> Result<(), u8> {
     let some_zero = match request {
         Request::First { item } => *item == 0,
         Request::Place { item, next, after, .. } => [item, next, after].contains(&&0),
@@ -145,7 +145,7 @@ fn check_numbers(request: &Request) -> Result<(), u8> {
 }
 
 /// Refusal 5.
-fn check_record(request: &Request) -> Result<(), u8> {
+pub(crate) fn check_record(request: &Request) -> Result<(), u8> {
     let malformed = match request {
         Request::Set { old, .. } | Request::Clear { old, .. } => old.is_malformed(),
         Request::Ask { record, .. } => record.is_malformed(),
@@ -155,7 +155,7 @@ fn check_record(request: &Request) -> Result<(), u8> {
 }
 
 /// Refusal 6.
-fn check_gap(request: &Request) -> Result<(), u8> {
+pub(crate) fn check_gap(request: &Request) -> Result<(), u8> {
     let outside = match request {
         Request::Place { item, next, after, .. } => !in_gap(*next, *item, *after),
         Request::Ask { q, item, next, .. } => q != item && !in_gap(*q, *item, *next),
@@ -165,7 +165,7 @@ fn check_gap(request: &Request) -> Result<(), u8> {
 }
 
 /// Refusal 11.
-fn check_clear(request: &Request) -> Result<(), u8> {
+pub(crate) fn check_clear(request: &Request) -> Result<(), u8> {
     let empty = matches!(request, Request::Clear { old, .. } if old.is_empty());
     refuse_if(empty, CLEAR_OF_EMPTY)
 }

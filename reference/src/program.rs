@@ -10,7 +10,7 @@ use std::io::{self, BufRead, BufReader, Read, Write};
 
 /// Bytes of a line worth keeping. A line with more digits than the longest frame
 /// is refused 1 whatever its bytes, so one byte beyond is enough to tell.
-const KEPT: usize = 2 * LONGEST_FRAME + 1;
+pub const KEPT: usize = 2 * LONGEST_FRAME + 1;
 
 /// Answers every line of `input` on `output`, from an unopened module. With
 /// `trace`, the refusal number and the block count follow each reply.
