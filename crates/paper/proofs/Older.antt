@@ -2,7 +2,7 @@
 -- the memoranda, the leaves in them, or the records in those.
 use mathlib.Core.Path.{_≡_, refl, sym, ap, subst, _∙_}
 use mathlib.Core.Bool.{Bool, true, false, true≢false}
-use mathlib.Core.List.{List, [], _∷_, _++_, List·Memᴰ, List·Memᴰ·head, List·Memᴰ·tail, List-discrete}
+use mathlib.Core.List.{List, [], _∷_, _++_, List·Memᴰ, List·Memᴰ·head, Memᴰ·append-left, Memᴰ·append-right, List-discrete}
 use mathlib.Core.Logic.{_⊎_, inl, inr}
 use Prim.Native.Nat.{ℕ, zero, suc, _+_, _<_, _^_}
 use native.Mathlib.Omega.{arith}
@@ -21,7 +21,7 @@ use Rattle.paper.specs.Requests.{Request, setTo, kinds, kindOf, rowOf, p
 use Rattle.paper.specs.Refusals.{Check, order, roomFor, replyRoom, isHex, top, nextRecord, leafOf, leafForms, changeForms, changeSays, needs, applies, formedAt, Verdict, refused, passed, judge}
 use Rattle.paper.specs.Module.{frameChecks, Told, told, answerTo}
 use Rattle.paper.specs.Collisions.{Collision}
-use Rattle.paper.proofs.Verdicts.{in-left, in-right, firstOf, formedBy, number-is, in-told, Passed, split-passed, reached, passed-number}
+use Rattle.paper.proofs.Verdicts.{firstOf, formedBy, number-is, in-told, Passed, split-passed, reached, passed-number}
 use Rattle.paper.specs.Older.{Fits, Later, OlderGets8}
 
 -- ── where the number is 0 or 10, every other check is passed ──
@@ -141,12 +141,12 @@ module _ (D : List ℕ → Dig) (D32 : (l : List ℕ) → length (D l) ≡ 32) (
 
     -- the three strings that tell the new revision
     memo-formed : List·Memᴰ (says r) (formedAt 8 (checks r n))
-    memo-formed = in-right _ (changeForms D A A′ old (new r)) _ (List·Memᴰ·head refl)
+    memo-formed = Memᴰ·append-right (changeForms D A A′ old (new r)) (List·Memᴰ·head refl)
 
     leaf-formed : List·Memᴰ (newLeaf r) (formedAt 8 (checks r n))
     leaf-formed =
-        in-left _ (changeForms D A A′ old (new r)) _
-        (in-right _ (leafForms D A A′ old) _ (in-right _ (recordForms (new r)) _ (List·Memᴰ·head refl)))
+        Memᴰ·append-left _
+        (Memᴰ·append-right (leafForms D A A′ old) (Memᴰ·append-right (recordForms (new r)) (List·Memᴰ·head refl)))
 
     not-blank : blank (new r) ≡ false
     not-blank = ne-eqb (r .counter .0 + 1) 0 (λ z. omega arith)
@@ -154,8 +154,8 @@ module _ (D : List ℕ → Dig) (D32 : (l : List ℕ) → length (D l) ≡ 32) (
     entry-formed : List·Memᴰ (entry (new r)) (formedAt 8 (checks r n))
     unfolding recordForms
     entry-formed =
-        in-left _ (changeForms D A A′ old (new r)) _
-        (in-right _ (leafForms D A A′ old) _ (in-left _ (recordForms (new r)) _ (rw not-blank (List·Memᴰ·head refl))))
+        Memᴰ·append-left _
+        (Memᴰ·append-right (leafForms D A A′ old) (Memᴰ·append-left {s = recordForms (new r)} _ (rw not-blank (List·Memᴰ·head refl))))
 
     -- a memorandum that fits is the digest of what it may say
     fitted : applies 8 (checks r n) ≡ false → digest D (says r) ≡ m
@@ -197,10 +197,10 @@ module _ (D : List ℕ → Dig) (D32 : (l : List ℕ) → length (D l) ≡ 32) (
         )
 
     formed-then : (x : Str) → List·Memᴰ x (formedAt 8 (checks s₀ space₀)) → List·Memᴰ x fs
-    formed-then x i = in-left x _ _ (formed s₀ space₀ x (then-passed .0) i)
+    formed-then x i = Memᴰ·append-left _ (formed s₀ space₀ x (then-passed .0) i)
 
     formed-now : (x : Str) → List·Memᴰ x (formedAt 8 (checks s space)) → List·Memᴰ x fs
-    formed-now x i = in-right x (answerTo D s₀ line space₀ .formed) _ (formed s space x now-passed i)
+    formed-now x i = Memᴰ·append-right (answerTo D s₀ line space₀ .formed) (formed s space x now-passed i)
 
     records : recordHash D (new s₀) ≡ recordHash D (new s) → Collision D fs
     unfolding recordHash

@@ -1,7 +1,7 @@
 -- What a verdict says: its number is the first that applies, and the strings of every check that it comes to are formed.
 use mathlib.Core.Path.{_≡_, refl}
 use mathlib.Core.Bool.{Bool, true, false}
-use mathlib.Core.List.{List, [], _∷_, _++_, List·Memᴰ, List·Memᴰ·head, List·Memᴰ·tail}
+use mathlib.Core.List.{List, [], _∷_, _++_, List·Memᴰ, Memᴰ·append-left, Memᴰ·append-right}
 use Prim.Native.Nat.{ℕ}
 use Rattle.seqs.specs.Choose.{pick}
 use Rattle.paper.specs.declared.Registers.{Registers}
@@ -10,16 +10,6 @@ use Rattle.paper.specs.Requests.{Request}
 use Rattle.paper.specs.Refusals.{Check, applies, formedAt, Verdict, refused, passed, judge}
 use Rattle.paper.specs.Answers.{answer}
 use Rattle.paper.specs.Module.{told}
-
--- ── membership ──
-
-pub in-left : (x : Str) (a b : List Str) → List·Memᴰ x a → List·Memᴰ x (a ++ b)
-in-left x a b (List·Memᴰ·head e) = List·Memᴰ·head e
-in-left x (t ∷ a) b (List·Memᴰ·tail m) = List·Memᴰ·tail (in-left x a b m)
-
-pub in-right : (x : Str) (a b : List Str) → List·Memᴰ x b → List·Memᴰ x (a ++ b)
-in-right x [] b m = m
-in-right x (t ∷ a) b m = List·Memᴰ·tail (in-right x a b m)
 
 -- ── a verdict's number, and its strings ──
 
@@ -44,7 +34,7 @@ module _ (D : List ℕ → Dig) (s : Registers) (k : ℕ) (q : Request) where
 
   pub in-told : (x : Str) (v : Verdict) → List·Memᴰ x (formedBy v) → List·Memᴰ x (told D s k q v .formed)
   in-told x (refused n fs) m = m
-  in-told x (passed fs) m = in-right x (answer D s q .forms) fs m
+  in-told x (passed fs) m = Memᴰ·append-right (answer D s q .forms) m
 
 -- strings formed stay so
 stays-step : (x : Str) (b : Bool) (n : ℕ) (fs : List Str) (v : Verdict) → List·Memᴰ x fs → List·Memᴰ x (formedBy v)
@@ -55,7 +45,7 @@ stays-step x false n fs v h i = i
 pub stays : (x : Str) (ns : List ℕ) (fs : List Str) (cs : List Check) → List·Memᴰ x fs → List·Memᴰ x (formedBy (judge ns fs cs))
 stays x [] fs cs m = m
 stays x (n ∷ ns) fs cs m =
-    let here = in-right x (formedAt n cs) fs m in
+    let here = Memᴰ·append-right (formedAt n cs) m in
     stays-step x (applies n cs) n (formedAt n cs ++ fs) (judge ns (formedAt n cs ++ fs) cs) here (stays x ns (formedAt n cs ++ fs) cs here)
 
 -- the checks of some numbers are passed
@@ -71,7 +61,7 @@ split-passed (n ∷ ns) rest cs h = let w = split-passed ns rest cs (h .1) in ((
 pub reached : (x : Str) (ns : List ℕ) (n : ℕ) (rest : List ℕ) (fs : List Str) (cs : List Check) → Passed ns cs
     → List·Memᴰ x (formedAt n cs) → List·Memᴰ x (formedBy (judge (ns ++ (n ∷ rest)) fs cs))
 reached x [] n rest fs cs h m =
-    let here = in-left x (formedAt n cs) fs m in
+    let here = Memᴰ·append-left fs m in
     stays-step x (applies n cs) n (formedAt n cs ++ fs) (judge rest (formedAt n cs ++ fs) cs) here (stays x rest (formedAt n cs ++ fs) cs here)
 reached x (i ∷ ns) n rest fs cs h m = rw (h .0) (reached x ns n rest (formedAt i cs ++ fs) cs (h .1) m)
 
