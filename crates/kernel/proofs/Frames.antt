@@ -12,8 +12,9 @@ use Rattle.sha256.specs.Hash.{sha256}
 use Rattle.paper.specs.declared.Registers.{Registers}
 use Rattle.paper.specs.Requests as Q
 use Rattle.paper.specs.Requests.{kindOf, known, fits, requestOf}
-use Rattle.paper.specs.Refusals.{Check, order, needs, those, Verdict, refused, judge}
+use Rattle.paper.specs.Refusals.{Check, order, needs, Verdict, refused, judge}
 use Rattle.paper.specs.Module.{refusalOf, frameChecks, told, answerFrame}
+use Rattle.paper.proofs.Early.{NoneEarly, none-early}
 use Rattle.paper.proofs.Frames as F
 use Rattle.lines.proofs.Fitting.{frame-by}
 use Rattle.replies.specs.declared.Outcome.{Outcome}
@@ -50,35 +51,16 @@ not-below k h g = omega arith
 
 -- ── checks 2 and 3, then those of the request ──
 
--- no request needs another check of number 2 or 3
-others : (s : Registers) (q : Q.Request) → (those 2 (needs sha256 s q) ≡ []) × (those 3 (needs sha256 s q) ≡ [])
-others s (Q.path x x′ sides l) = (refl, refl)
-others s (Q.witness x y m) = (refl, refl)
-others s (Q.join x y x′ y′ m1 z z′ m2) = (refl, refl)
-others s (Q.pair x1 y x1′ y′ m1 x2 z x2′ z′ m2) = (refl, refl)
-others s (Q.raise x1 x2 y x1′ x2′ y′ m1 z z′ m2) = (refl, refl)
-others s (Q.swap x1 x2 y y′ m) = (refl, refl)
-others s (Q.first A) = (refl, refl)
-others s (Q.place A A′ B′ ω y y′ m) = (refl, refl)
-others s (Q.turn x y m) = (refl, refl)
-others s (Q.chain x y m1 z m2) = (refl, refl)
-others s (Q.adopt y y′ m) = (refl, refl)
-others s (Q.setTo A A′ old v2 v3 v4 y y′ m) = (refl, refl)
-others s (Q.clear A A′ old y y′ m) = (refl, refl)
-others s (Q.ask q A A′ r y m) = (refl, refl)
-others s (Q.askNone q) = (refl, refl)
-others s (Q.unlock k) = (refl, refl)
-
-module _ (f : List ℕ) (cs : List Check) (a : those 2 cs ≡ []) (b : those 3 cs ≡ []) where
+module _ (f : List ℕ) (cs : List Check) (early : NoneEarly cs) where
   judged-2 : known (kindOf f) ≡ false → judge (drop 2 order) [] (frameChecks f ++ cs) ≡ refused 2 []
-  judged-2 h = rw (a, h)
+  judged-2 h = rw (early .of-2, h)
 
   judged-3 : known (kindOf f) ≡ true → fits f ≡ false → judge (drop 2 order) [] (frameChecks f ++ cs) ≡ refused 3 []
-  judged-3 h g = rw (a, b, h, g)
+  judged-3 h g = rw (early .of-2, early .of-3, h, g)
 
   judged-on : known (kindOf f) ≡ true → fits f ≡ true
       → judge (drop 2 order) [] (frameChecks f ++ cs) ≡ judge (drop 4 order) [] cs
-  judged-on h g = rw (a, b, h, g)
+  judged-on h g = rw (early .of-2, early .of-3, h, g)
 
 -- ── a frame's outcome ──
 
@@ -98,10 +80,10 @@ module _ (s : Registers) (f : List ℕ) where
   unfolding answerFrame
   refused-by false c h g n e z =
       ap (λ (m : ℕ). refusal s m 0) (e ∙ own-by false c h g)
-      ∙ sym (ap (λ (v : Verdict). outcomeOf (told sha256 s (kindOf f) q v)) (judged-2 f (needs sha256 s q) (others s q .0) (others s q .1) h))
+      ∙ sym (ap (λ (v : Verdict). outcomeOf (told sha256 s (kindOf f) q v)) (judged-2 f (needs sha256 s q) (none-early sha256 s q) h))
   refused-by true false h g n e z =
       ap (λ (m : ℕ). refusal s m 0) (e ∙ own-by true false h g)
-      ∙ sym (ap (λ (v : Verdict). outcomeOf (told sha256 s (kindOf f) q v)) (judged-3 f (needs sha256 s q) (others s q .0) (others s q .1) h g))
+      ∙ sym (ap (λ (v : Verdict). outcomeOf (told sha256 s (kindOf f) q v)) (judged-3 f (needs sha256 s q) (none-early sha256 s q) h g))
   refused-by true true h g n e z = absurd (z (e ∙ own-by true true h g))
 
   pub frame-refused : (n : ℕ) → n ≡ own → (n ≡ 0 → ⊥) → refusal s n 0 ≡ outcomeOf (answerFrame sha256 s f)
@@ -119,4 +101,4 @@ module _ (s : Registers) (f : List ℕ) where
   pub frame-answered : known (kindOf f) ≡ true → fits f ≡ true → outcome s (kindOf f) q ≡ outcomeOf (answerFrame sha256 s f)
   unfolding answerFrame outcome
   frame-answered h g =
-      sym (ap (λ (v : Verdict). outcomeOf (told sha256 s (kindOf f) q v)) (judged-on f (needs sha256 s q) (others s q .0) (others s q .1) h g))
+      sym (ap (λ (v : Verdict). outcomeOf (told sha256 s (kindOf f) q v)) (judged-on f (needs sha256 s q) (none-early sha256 s q) h g))

@@ -19,8 +19,9 @@ use Rattle.paper.specs.declared.Registers.{Registers}
 use Rattle.paper.specs.Strings.{Str}
 use Rattle.paper.specs.Requests as Q
 use Rattle.paper.specs.Requests.{kindOf, requestOf}
-use Rattle.paper.specs.Refusals.{Check, order, roomFor, isHex, needs, those, applies, formedAt, Verdict, refused, judge}
+use Rattle.paper.specs.Refusals.{Check, order, roomFor, isHex, needs, applies, formedAt, Verdict, refused, judge}
 use Rattle.paper.specs.Module.{refusalOf, frameChecks, readRefusal, Told, told, answerFrame, answerTo, replyLine, spaceAfter}
+use Rattle.paper.proofs.Early.{none-early}
 use Rattle.lines.specs.declared.Read.{Read}
 use Rattle.lines.specs.declared.Read.the-variants.{Frame, Refused}
 use Rattle.lines.proofs.Read.{the-type}
@@ -34,25 +35,6 @@ use Rattle.module.specs.Work.{numberOf}
 
 -- ── checks 15 and 1, before those of the frame ──
 
--- no request needs another check of number 15 or 1
-others : (s : Registers) (q : Q.Request) → (those 15 (needs sha256 s q) ≡ []) × (those 1 (needs sha256 s q) ≡ [])
-others s (Q.path x x′ sides l) = (refl, refl)
-others s (Q.witness x y m) = (refl, refl)
-others s (Q.join x y x′ y′ m1 z z′ m2) = (refl, refl)
-others s (Q.pair x1 y x1′ y′ m1 x2 z x2′ z′ m2) = (refl, refl)
-others s (Q.raise x1 x2 y x1′ x2′ y′ m1 z z′ m2) = (refl, refl)
-others s (Q.swap x1 x2 y y′ m) = (refl, refl)
-others s (Q.first A) = (refl, refl)
-others s (Q.place A A′ B′ ω y y′ m) = (refl, refl)
-others s (Q.turn x y m) = (refl, refl)
-others s (Q.chain x y m1 z m2) = (refl, refl)
-others s (Q.adopt y y′ m) = (refl, refl)
-others s (Q.setTo A A′ old v2 v3 v4 y y′ m) = (refl, refl)
-others s (Q.clear A A′ old y y′ m) = (refl, refl)
-others s (Q.ask q A A′ r y m) = (refl, refl)
-others s (Q.askNone q) = (refl, refl)
-others s (Q.unlock k) = (refl, refl)
-
 module _ (s : Registers) (line : List ℕ) where
   abbrev f : List ℕ
   f = bytesOf line
@@ -62,7 +44,7 @@ module _ (s : Registers) (line : List ℕ) where
 
   pub without-room : (space : ℕ) → space < 195 → answerTo sha256 s line space ≡ judged (refused 15 [])
   unfolding answerTo
-  without-room space h = rw (lt-ltb space 195 h, others s (requestOf f) .0) refl
+  without-room space h = rw (lt-ltb space 195 h, none-early sha256 s (requestOf f) .of-15) refl
 
   -- where there is room it does not matter how much
   pub with-room : (space : ℕ) → 195 ≤ space → answerTo sha256 s line space ≡ answerTo sha256 s line 195
@@ -71,11 +53,11 @@ module _ (s : Registers) (line : List ℕ) where
 
   not-hex : isHex line .fails ≡ true → answerTo sha256 s line 195 ≡ judged (refused 1 [])
   unfolding answerTo
-  not-hex h = rw (h, others s (requestOf f) .0, others s (requestOf f) .1) refl
+  not-hex h = rw (h, none-early sha256 s (requestOf f) .of-15, none-early sha256 s (requestOf f) .of-1) refl
 
   pub is-hex : isHex line .fails ≡ false → answerTo sha256 s line 195 ≡ answerFrame sha256 s f
   unfolding answerTo answerFrame
-  is-hex h = rw (h, others s (requestOf f) .0, others s (requestOf f) .1) refl
+  is-hex h = rw (h, none-early sha256 s (requestOf f) .of-15, none-early sha256 s (requestOf f) .of-1) refl
 
 -- ── the reader, with a space of 2,122 bytes ──
 
@@ -189,7 +171,7 @@ unfolding answerTo
 not-15 s line =
     let f = bytesOf line in
     let q = requestOf f in
-    rw (others s q .0) (never s (kindOf f) q (drop 1 order) [] (roomFor 195 195 ∷ isHex line ∷ (frameChecks f ++ needs sha256 s q)) refl)
+    rw (none-early sha256 s q .of-15) (never s (kindOf f) q (drop 1 order) [] (roomFor 195 195 ∷ isHex line ∷ (frameChecks f ++ needs sha256 s q)) refl)
 
 module _ (t : Told) (o : Outcome) (e : o ≡ outcomeOf t) (long : length (o .reply) ≡ 97) where
   -- the reply lies whole in the outcome's bytes

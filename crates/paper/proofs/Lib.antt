@@ -1,5 +1,6 @@
 pub mod ByHand
 pub mod Ceilings
+pub mod Early
 pub mod Encoding
 pub mod Frames
 pub mod Older
