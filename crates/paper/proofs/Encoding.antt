@@ -1,14 +1,15 @@
 -- The bytes of a string tell the string: the encoding is injective on strings whose numbers are below 2 ^ 64 and
 -- whose digests have 32 bytes.
 use mathlib.Core.Path.{_≡_, refl, sym, ap, _∙_}
-use mathlib.Core.List.{List, [], _∷_, _++_}
+use mathlib.Core.List.{List, [], _∷_, _++_, List-discrete}
 use Prim.Native.Nat.{ℕ, zero, suc}
+use native.Mathlib.Decide.{ℕ-discrete}
 use native.Mathlib.Omega.{arith}
 use lib.ListN.{length, take, drop, length-append}
 use lib.Seq.{take-at, drop-at}
 use Rattle.seqs.specs.Bytes.{be64, be64-length, numberOf, number-be64}
 use Rattle.paper.specs.declared.Record.{Record}
-use Rattle.paper.specs.Strings.{Dig, Memo, u1, v1, u2, ei, Str, leaf, node, entry, memo, Field, num, dig, fieldsOf, tagOf, spread, widths, enc, lengthOf, Sound, SoundAll, WellFormed}
+use Rattle.paper.specs.Strings.{Dig, Memo, u1, v1, u2, ei, Str, leaf, node, entry, memo, Field, num, dig, Field-discrete, fieldsOf, tagOf, spread, widths, enc, lengthOf, Sound, SoundAll, WellFormed}
 
 -- a field's kind is its shape: what is known of it before its bytes are read
 data Shape : Type 0 where
@@ -98,6 +99,18 @@ made (memo (u1 x y x′ y′) k) = refl
 made (memo (v1 x y) k) = refl
 made (memo (u2 x1 x2 y x1′ x2′ y′) k) = refl
 made (memo (ei y y′) k) = refl
+
+-- so two strings are the same or they are not
+pub Str-discrete : Discrete Str
+Str-discrete s t = go (ℕ-discrete (tagOf s) (tagOf t)) (List-discrete by-field (fieldsOf s) (fieldsOf t))
+  where
+    go : Dec (tagOf s ≡ tagOf t) → Dec (fieldsOf s ≡ fieldsOf t) → Dec (s ≡ t)
+    go (yes e) (yes f) = yes (sym (made s) ∙ (λ i. make (e i) (f i)) ∙ made t)
+    go (yes e) (no k) = no (λ p. k (ap fieldsOf p))
+    go (no k) f = no (λ p. k (ap tagOf p))
+
+    by-field : Discrete Field
+    by-field = Field-discrete ℕ-discrete (List-discrete ℕ-discrete)
 
 -- a string out of its bytes
 abbrev back : List ℕ → Str

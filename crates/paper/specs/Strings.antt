@@ -52,6 +52,7 @@ tagOf (memo (ei y y′) k) = 0x07
 pub data Field : Type 0 where
   num : ℕ → Field
   dig : Dig → Field
+  deriving Discrete as Field-discrete
 
 abbrev pub nums : List ℕ → List Field
 nums [] = []
