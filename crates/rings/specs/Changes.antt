@@ -1,0 +1,48 @@
+-- What an issued memorandum stands for, as steps on the list: 01, "Replay" ("turn does the reverse of what its memorandum
+-- stands for; chain does both in order") and "Legal".
+use mathlib.Core.List.{List, [], _∷_, _++_}
+use Prim.Native.Nat.{ℕ, _<_}
+use Rattle.paper.specs.declared.Record.{Record}
+use Rattle.rings.specs.Lists.{Item, Listed, Unlisted, insert, remove}
+
+-- the empty record: all its numbers are 0
+abbrev pub emptyRecord : Record
+emptyRecord =
+    record {
+      revision = record { 0 = 0 };
+      mass = record { 0 = 0 };
+      offset = record { 0 = 0 };
+      rigging = record { 0 = 0 };
+    }
+
+-- "first adds an empty item; place removes one"
+pub data Step : Type 0 where
+  insertion : (A : ℕ) → Step
+  removal : (A : ℕ) → Step
+
+abbrev pub doStep : Step → List (Item Record) → List (Item Record)
+doStep (insertion A) ls = insert A emptyRecord ls
+doStep (removal A) ls = remove A ls
+
+-- several, in order
+abbrev pub doSteps : List Step → List (Item Record) → List (Item Record)
+doSteps [] ls = ls
+doSteps (s ∷ c) ls = doSteps c (doStep s ls)
+
+-- the reverse: each undone, the last first
+abbrev pub undoing : Step → Step
+undoing (insertion A) = removal A
+undoing (removal A) = insertion A
+
+abbrev pub reversed : List Step → List Step
+reversed [] = []
+reversed (s ∷ c) = reversed c ++ (undoing s ∷ [])
+
+-- "Legal: to insert a number that isn't 0 and isn't listed, to remove a listed empty item": each step for the list it meets
+abbrev pub LegalStep : Step → List (Item Record) → Type 0
+LegalStep (insertion A) ls = (0 < A) × Unlisted A ls
+LegalStep (removal A) ls = Listed A emptyRecord ls
+
+abbrev pub LegalSteps : List Step → List (Item Record) → Type 0
+LegalSteps [] ls = Unit {0}
+LegalSteps (s ∷ c) ls = LegalStep s ls × LegalSteps c (doStep s ls)

@@ -1,0 +1,11 @@
+-- How a run may end, beside a collision (paper's `Collision`) and a memorandum that nobody issued.
+use mathlib.Core.Path.{_≡_}
+use mathlib.Core.List.{List, List·Memᴰ}
+use Prim.Native.Nat.{ℕ}
+use Rattle.paper.specs.Strings.{Dig, nought, Str, digest}
+
+-- demand 3: "such a string with an all-zero digest": it is among the strings formed
+pub record ZeroDigest (D : List ℕ → Dig) (formed : List Str) : Type 0 where
+  pub string : Str
+  pub string-formed : List·Memᴰ string formed
+  pub zero-digest : digest D string ≡ nought

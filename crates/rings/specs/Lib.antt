@@ -1,0 +1,4 @@
+pub mod Trees
+pub mod Lists
+pub mod Changes
+pub mod Endings
