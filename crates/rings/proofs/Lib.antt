@@ -1,1 +1,4 @@
 pub mod ByHand
+pub mod Counting
+pub mod Nodes
+pub mod Align

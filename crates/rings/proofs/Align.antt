@@ -1,0 +1,261 @@
+-- Alignment. Where a path folds the digest x to a tree's hash, the tree is that path with a part of hash x at its end, up to
+-- empty parts, and another part may be put in its place; or a fault can be shown. The same for two places under one node.
+-- This is why a memorandum, which knows digests only, says something of every tree that has them.
+use mathlib.Core.Path.{_≡_, refl, sym, ap, _∙_}
+use mathlib.Core.List.{List, [], _∷_, _++_}
+use mathlib.Core.Logic.{_⊎_, inl, inr}
+use Prim.Native.Nat.{ℕ, _+_}
+use native.Mathlib.Omega.{arith}
+use Rattle.paper.specs.Strings.{Dig, nought, Str, node}
+use Rattle.rings.specs.Trees.{Leaf, points, Tree, empty, tip, branch, leaves, count}
+use Rattle.rings.proofs.Counting.{count-nil, count-append}
+use Rattle.rings.proofs.Nodes.{Dig-discrete, _∈_, Within, above, above-right-0, above-left-0, above-node, hash, NodeIn, TreeIn, Fault, vanishes, _>>=_, same-string, no-leaf}
+
+-- a level of a path: the sibling, and the side that it stands on
+pub data Sibling : Type 0 where
+  left : Dig → Sibling
+  right : Dig → Sibling
+
+module _ (D : Str → Dig) where
+  -- ── one node ──
+
+  -- T is, up to empty parts, a node over halves l and r of hashes a and b
+  pub record Split (F : List Str) (a b : Dig) (T : Tree) : Type 0 where
+    pub l : Tree
+    pub r : Tree
+    pub hash-l : hash D l ≡ a
+    pub hash-r : hash D r ≡ b
+    pub in-l : TreeIn D F l
+    pub in-r : TreeIn D F r
+    pub cut : (x : Leaf) → count x (leaves T) ≡ count x (leaves l) + count x (leaves r)
+
+  -- a node whose other half is empty splits as its full half does
+  from-half : {F : List Str} {a b : Dig} {S T : Tree} → ((x : Leaf) → count x (leaves T) ≡ count x (leaves S)) → Split F a b S
+      → Split F a b T
+  from-half f s =
+      record {
+        l = s .l;
+        r = s .r;
+        hash-l = s .hash-l;
+        hash-r = s .hash-r;
+        in-l = s .in-l;
+        in-r = s .in-r;
+        cut = λ x. f x ∙ s .cut x;
+      }
+
+  split-node : {F : List Str} (T : Tree) (a b : Dig) → node a b ∈ F → D (node a b) ≡ hash D T → TreeIn D F T
+      → Fault D F ⊎ Split F a b T
+  split-node empty a b m e i = inl (vanishes (node a b) m e)
+  split-node (tip (points a′ b′ w′)) a b m e i = do
+    p ← same-string D m i e
+    let z : _≡_ {A = ℕ} 0 1 = cc
+    absurd (omega arith)
+  split-node {F} (branch l r) a b m e i =
+      go (Dig-discrete (hash D l) nought) (Dig-discrete (hash D r) nought)
+      (λ h. split-node l a b m h (i .0)) (λ h. split-node r a b m h (i .1))
+    where
+      go : Dec (hash D l ≡ nought) → Dec (hash D r ≡ nought) → (D (node a b) ≡ hash D l → Fault D F ⊎ Split F a b l)
+          → (D (node a b) ≡ hash D r → Fault D F ⊎ Split F a b r) → Fault D F ⊎ Split F a b (branch l r)
+      go (yes p) d f g = do
+        u ← no-leaf D l p (i .0)
+        s ← g (e ∙ above-left-0 D (hash D l) (hash D r) p)
+        inr (from-half (λ x. rw u refl) s)
+      go (no n) (yes q) f g = do
+        u ← no-leaf D r q (i .1)
+        s ← f (e ∙ above-right-0 D (hash D l) (hash D r) q)
+        inr (from-half (λ x. rw (count-append, u, count-nil) (omega arith)) s)
+      go (no n) (no k) f g = do
+        p ← same-string D m (i .2 n k) (e ∙ above-node D (hash D l) (hash D r) n k)
+        inr (record {
+          l = l;
+          r = r;
+          hash-l = cc;
+          hash-r = cc;
+          in-l = i .0;
+          in-r = i .1;
+          cut = λ x. count-append x (leaves l) (leaves r);
+        })
+
+  pub split : {F : List Str} (T : Tree) (a b : Dig) → NodeIn D F a b → above D a b ≡ hash D T → TreeIn D F T
+      → Fault D F ⊎ Split F a b T
+  split {F} T a b m e i = go (Dig-discrete b nought) (Dig-discrete a nought)
+    where
+      go : Dec (b ≡ nought) → Dec (a ≡ nought) → Fault D F ⊎ Split F a b T
+      go (yes q) d =
+          inr (record {
+            l = T;
+            r = empty;
+            hash-l = sym e ∙ above-right-0 D a b q;
+            hash-r = sym q;
+            in-l = i;
+            in-r = tt;
+            cut = λ x. rw count-nil (omega arith);
+          })
+      go (no n) (yes p) =
+          inr (record {
+            l = empty;
+            r = T;
+            hash-l = sym p;
+            hash-r = sym e ∙ above-left-0 D a b p;
+            in-l = tt;
+            in-r = i;
+            cut = λ x. rw count-nil (omega arith);
+          })
+      go (no n) (no k) = split-node T a b (m k n) (sym (above-node D a b k n) ∙ e) i
+
+  -- ── a path, the topmost sibling first ──
+
+  abbrev pub fold : List Sibling → Dig → Dig
+  fold [] x = x
+  fold (left s ∷ p) x = above D s (fold p x)
+  fold (right s ∷ p) x = above D (fold p x) s
+
+  -- the node strings of the way up are among F
+  abbrev pub PathIn : List Str → List Sibling → Dig → Type 0
+  PathIn F [] x = Unit {0}
+  PathIn F (left s ∷ p) x = PathIn F p x × NodeIn D F s (fold p x)
+  PathIn F (right s ∷ p) x = PathIn F p x × NodeIn D F (fold p x) s
+
+  pub path-more : {F G : List Str} (p : List Sibling) (x : Dig) → Within F G → PathIn F p x → PathIn G p x
+  path-more [] x s i = tt
+  path-more (left a ∷ p) x s i = (path-more p x s (i .0), λ n m. s (node a (fold p x)) (i .1 n m))
+  path-more (right a ∷ p) x s i = (path-more p x s (i .0), λ n m. s (node (fold p x) a) (i .1 n m))
+
+  pub fold-append : (q p : List Sibling) (x : Dig) → fold (q ++ p) x ≡ fold q (fold p x)
+  fold-append [] p x = refl
+  fold-append (left s ∷ q) p x = ap (above D s) (fold-append q p x)
+  fold-append (right s ∷ q) p x = ap (λ (y : Dig). above D y s) (fold-append q p x)
+
+  pub path-append : (F : List Str) (q p : List Sibling) (x : Dig) → PathIn F q (fold p x) → PathIn F p x → PathIn F (q ++ p) x
+  path-append F [] p x i j = j
+  path-append F (left s ∷ q) p x i j = (path-append F q p x (i .0) j, rw (fold-append q p x) (i .1))
+  path-append F (right s ∷ q) p x i j = (path-append F q p x (i .0) j, rw (fold-append q p x) (i .1))
+
+  -- a tree of hash y with given leaves
+  pub record Made (F : List Str) (y : Dig) (has : Leaf → ℕ) : Type 0 where
+    pub tree : Tree
+    pub tree-hash : hash D tree ≡ y
+    pub tree-in : TreeIn D F tree
+    pub holds : (z : Leaf) → count z (leaves tree) ≡ has z
+
+  -- T is a part of hash x under the path p, with the leaves `rest` beside it; another part may be put there
+  pub record Hole (F : List Str) (p : List Sibling) (x : Dig) (T : Tree) : Type 0 where
+    pub part : Tree
+    pub part-hash : hash D part ≡ x
+    pub part-in : TreeIn D F part
+    pub rest : List Leaf
+    pub cut : (z : Leaf) → count z (leaves T) ≡ count z (leaves part) + count z rest
+    pub fill : (Y : Tree) (y : Dig) → hash D Y ≡ y → TreeIn D F Y → PathIn F p y
+        → Made F (fold p y) (λ z. count z (leaves Y) + count z rest)
+
+  pub align : {F : List Str} (p : List Sibling) (x : Dig) (T : Tree) → fold p x ≡ hash D T → TreeIn D F T → PathIn F p x
+      → Fault D F ⊎ Hole F p x T
+  align [] x T e i j =
+      inr (record {
+        part = T;
+        part-hash = sym e;
+        part-in = i;
+        rest = [];
+        cut = λ z. rw count-nil (omega arith);
+        fill = λ Y y eY iY jY.
+            record { tree = Y; tree-hash = eY; tree-in = iY; holds = λ z. rw count-nil (omega arith) };
+      })
+  align (left s ∷ p) x T e i j = do
+    c ← split T s (fold p x) (j .1) e i
+    d ← align p x (c .r) (sym (c .hash-r)) (c .in-r) (j .0)
+    inr (record {
+      part = d .part;
+      part-hash = d .part-hash;
+      part-in = d .part-in;
+      rest = leaves (c .l) ++ d .rest;
+      cut = λ z. rw count-append (omega (arith, c .cut z, d .cut z));
+      fill = λ Y y eY iY jY.
+          let u = d .fill Y y eY iY (jY .0) in
+          record {
+            tree = branch (c .l) (u .tree);
+            tree-hash = cc (c .hash-l, u .tree-hash);
+            tree-in = (c .in-l, u .tree-in, rw (c .hash-l, u .tree-hash) (jY .1));
+            holds = λ z. simp count-append (omega (arith, u .holds z));
+          };
+    })
+  align (right s ∷ p) x T e i j = do
+    c ← split T (fold p x) s (j .1) e i
+    d ← align p x (c .l) (sym (c .hash-l)) (c .in-l) (j .0)
+    inr (record {
+      part = d .part;
+      part-hash = d .part-hash;
+      part-in = d .part-in;
+      rest = leaves (c .r) ++ d .rest;
+      cut = λ z. rw count-append (omega (arith, c .cut z, d .cut z));
+      fill = λ Y y eY iY jY.
+          let u = d .fill Y y eY iY (jY .0) in
+          record {
+            tree = branch (u .tree) (c .r);
+            tree-hash = cc (c .hash-r, u .tree-hash);
+            tree-in = (u .tree-in, c .in-r, rw (c .hash-r, u .tree-hash) (jY .1));
+            holds = λ z. simp count-append (omega (arith, u .holds z));
+          };
+    })
+
+  -- ── two paths that meet under one node, and the path above it ──
+
+  abbrev pub fold-two : (p₁ p₂ q : List Sibling) → Dig → Dig → Dig
+  fold-two p₁ p₂ q x₁ x₂ = fold q (above D (fold p₁ x₁) (fold p₂ x₂))
+
+  abbrev pub PathsIn : List Str → (p₁ p₂ q : List Sibling) → Dig → Dig → Type 0
+  PathsIn F p₁ p₂ q x₁ x₂ =
+      PathIn F p₁ x₁ × PathIn F p₂ x₂ × NodeIn D F (fold p₁ x₁) (fold p₂ x₂) × PathIn F q (above D (fold p₁ x₁) (fold p₂ x₂))
+
+  pub paths-more : {F G : List Str} (p₁ p₂ q : List Sibling) (x₁ x₂ : Dig) → Within F G → PathsIn F p₁ p₂ q x₁ x₂
+      → PathsIn G p₁ p₂ q x₁ x₂
+  paths-more p₁ p₂ q x₁ x₂ s i = (
+    path-more p₁ x₁ s (i .0),
+    path-more p₂ x₂ s (i .1),
+    λ n m. s (node (fold p₁ x₁) (fold p₂ x₂)) (i .2 n m),
+    path-more q (above D (fold p₁ x₁) (fold p₂ x₂)) s (i .3),
+  )
+
+  -- T holds a part of hash x₁ and beside it one of hash x₂; parts of hashes x₁′ and x₂′ put there make a tree of hash y′
+  pub record Two (F : List Str) (x₁ x₂ x₁′ x₂′ y′ : Dig) (T : Tree) : Type 0 where
+    pub part₁ : Tree
+    pub part₂ : Tree
+    pub hash₁ : hash D part₁ ≡ x₁
+    pub hash₂ : hash D part₂ ≡ x₂
+    pub in₁ : TreeIn D F part₁
+    pub in₂ : TreeIn D F part₂
+    pub rest : List Leaf
+    pub cut : (z : Leaf) → count z (leaves T) ≡ count z (leaves part₁) + count z (leaves part₂) + count z rest
+    pub fill : (Y₁ Y₂ : Tree) → hash D Y₁ ≡ x₁′ → hash D Y₂ ≡ x₂′ → TreeIn D F Y₁ → TreeIn D F Y₂
+        → Made F y′ (λ z. count z (leaves Y₁) + count z (leaves Y₂) + count z rest)
+
+  pub align-two : {F : List Str} (p₁ p₂ q : List Sibling) (x₁ x₂ x₁′ x₂′ : Dig) (T : Tree) → fold-two p₁ p₂ q x₁ x₂ ≡ hash D T
+      → TreeIn D F T → PathsIn F p₁ p₂ q x₁ x₂ → PathsIn F p₁ p₂ q x₁′ x₂′
+      → Fault D F ⊎ Two F x₁ x₂ x₁′ x₂′ (fold-two p₁ p₂ q x₁′ x₂′) T
+  align-two p₁ p₂ q x₁ x₂ x₁′ x₂′ T e i j k = do
+    a ← align q (above D (fold p₁ x₁) (fold p₂ x₂)) T e i (j .3)
+    c ← split (a .part) (fold p₁ x₁) (fold p₂ x₂) (j .2) (sym (a .part-hash)) (a .part-in)
+    d ← align p₁ x₁ (c .l) (sym (c .hash-l)) (c .in-l) (j .0)
+    f ← align p₂ x₂ (c .r) (sym (c .hash-r)) (c .in-r) (j .1)
+    inr (record {
+      part₁ = d .part;
+      part₂ = f .part;
+      hash₁ = d .part-hash;
+      hash₂ = f .part-hash;
+      in₁ = d .part-in;
+      in₂ = f .part-in;
+      rest = d .rest ++ (f .rest ++ a .rest);
+      cut = λ z. simp count-append (omega (arith, a .cut z, c .cut z, d .cut z, f .cut z));
+      fill = λ Y₁ Y₂ e₁ e₂ i₁ i₂.
+          let u = d .fill Y₁ x₁′ e₁ i₁ (k .0) in
+          let v = f .fill Y₂ x₂′ e₂ i₂ (k .1) in
+          let w = a .fill (branch (u .tree) (v .tree)) (above D (fold p₁ x₁′) (fold p₂ x₂′)) (cc (u .tree-hash, v .tree-hash))
+          (u .tree-in, v .tree-in, rw (u .tree-hash, v .tree-hash) (k .2)) (k .3) in
+          record {
+            tree = w .tree;
+            tree-hash = w .tree-hash;
+            tree-in = w .tree-in;
+            holds = λ z.
+                simp count-append
+                (omega (arith, w .holds z, u .holds z, v .holds z, count-append z (leaves (u .tree)) (leaves (v .tree))));
+          };
+    })
