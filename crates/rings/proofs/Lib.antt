@@ -2,3 +2,8 @@ pub mod ByHand
 pub mod Counting
 pub mod Nodes
 pub mod Align
+pub mod Gaps
+pub mod Items
+pub mod Ring
+pub mod RingChanges
+pub mod Find

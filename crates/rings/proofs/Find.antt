@@ -1,0 +1,199 @@
+-- Finding leaves in the ring: the leaf of a listed item, the leaf in whose gap an unlisted number lies, and the two leaves at
+-- a listed item that is not alone.
+use mathlib.Core.Path.{_≡_, refl}
+use mathlib.Core.List.{List, [], _∷_, List·Memᴰ·cases-cons}
+use mathlib.Core.Logic.{_⊎_, inl, inr}
+use Prim.Native.Nat.{ℕ, _≤_, _<_}
+use native.Mathlib.Decide.{decLt}
+use native.Mathlib.Omega.{arith}
+use Rattle.paper.specs.Strings.{Dig}
+use Rattle.rings.specs.Trees.{Leaf, points, count}
+use Rattle.rings.specs.Lists.{Item, item, Ascending, Listed, Unlisted, chainOf, ring}
+use Rattle.rings.proofs.Counting.{count-head, count-tail}
+use Rattle.rings.proofs.Gaps.{Gap, between, beyond, before}
+
+-- a leaf of L in whose gap q lies
+pub record Spot (q : ℕ) (L : List Leaf) : Type 0 where
+  pub a : ℕ
+  pub b : ℕ
+  pub w : Dig
+  pub a-positive : 0 < a
+  pub b-positive : 0 < b
+  pub gap : Gap a b q
+  pub on : 0 < count (points a b w) L
+
+-- the leaf of item q, whose hash is v, and the leaf that leads to it
+pub record Near (q : ℕ) (v : Dig) (L : List Leaf) : Type 0 where
+  pub a : ℕ
+  pub b : ℕ
+  pub w : Dig
+  pub a-positive : 0 < a
+  pub b-positive : 0 < b
+  pub gap : Gap a b q
+  pub on : 0 < count (points a q w) L
+  pub next : 0 < count (points q b v) L
+
+spot-behind : {q : ℕ} {L : List Leaf} (x : Leaf) → Spot q L → Spot q (x ∷ L)
+spot-behind x t =
+    record {
+      a = t .a;
+      b = t .b;
+      w = t .w;
+      a-positive = t .a-positive;
+      b-positive = t .b-positive;
+      gap = t .gap;
+      on = count-tail _ _ _ (t .on);
+    }
+
+near-behind : {q : ℕ} {v : Dig} {L : List Leaf} (x : Leaf) → Near q v L → Near q v (x ∷ L)
+near-behind x t =
+    record {
+      a = t .a;
+      b = t .b;
+      w = t .w;
+      a-positive = t .a-positive;
+      b-positive = t .b-positive;
+      gap = t .gap;
+      on = count-tail _ _ _ (t .on);
+      next = count-tail _ _ _ (t .next);
+    }
+
+module _ {R : Type 0} (h : R → Dig) where
+  -- ── the leaf of a listed item ──
+
+  item-chain : (q : ℕ) (s : R) (a : ℕ) (r : R) (l : List (Item R)) (z : ℕ) → 0 < z → Ascending a l → Listed q s (item a r ∷ l)
+      → (c : ℕ) × (0 < c) × (0 < count (points q c (h s)) (chainOf h a r l z))
+  item-chain q s a r [] z hz g m = go (List·Memᴰ·cases-cons m)
+    where
+      go : (item q s ≡ item a r) ⊎ Listed q s [] → (c : ℕ) × (0 < c) × (0 < count (points q c (h s)) (points a z (h r) ∷ []))
+      go (inl e) = (z, hz, count-head _ _ _ (cc))
+      go (inr k) = elim k [ ]
+  item-chain q s a r (item b t ∷ l) z hz g m = go (List·Memᴰ·cases-cons m) (λ k. item-chain q s b t l z hz (g .1) k)
+    where
+      go : (item q s ≡ item a r) ⊎ Listed q s (item b t ∷ l)
+          → (Listed q s (item b t ∷ l) → (c : ℕ) × (0 < c) × (0 < count (points q c (h s)) (chainOf h b t l z)))
+          → (c : ℕ) × (0 < c) × (0 < count (points q c (h s)) (points a b (h r) ∷ chainOf h b t l z))
+      go (inl e) f = (b, omega (arith, g .0), count-head _ _ _ (cc))
+      go (inr k) f = let u = f k in (u .0, u .1, count-tail _ _ _ (u .2))
+
+  pub item-leaf : (q : ℕ) (s : R) (ls : List (Item R)) → Ascending 0 ls → Listed q s ls
+      → (c : ℕ) × (0 < c) × (0 < count (points q c (h s)) (ring h ls))
+  item-leaf q s [] g m = elim m [ ]
+  item-leaf q s (item a r ∷ l) g m = item-chain q s a r l a (g .0) (g .1) m
+
+  -- the last leaf of a chain
+  last-leaf : (a : ℕ) (r : R) (l : List (Item R)) (z : ℕ) → Ascending a l
+      → (p : ℕ) × (w : Dig) × (a ≤ p) × (0 < count (points p z w) (chainOf h a r l z))
+  last-leaf a r [] z g = (a, h r, omega arith, count-head _ _ _ refl)
+  last-leaf a r (item b s ∷ l) z g =
+      let t = last-leaf b s l z (g .1) in
+      (t .0, t .1, omega (arith, g .0, t .2), count-tail _ _ _ (t .3))
+
+  -- ── the leaf in whose gap an unlisted number lies ──
+
+  spot-chain : (q a : ℕ) (r : R) (l : List (Item R)) (z : ℕ) → 0 < z → z ≤ a → Ascending a l → a < q → Unlisted q l
+      → Spot q (chainOf h a r l z)
+  spot-chain q a r [] z hz hza g k f =
+      record {
+        a = a;
+        b = z;
+        w = h r;
+        a-positive = omega arith;
+        b-positive = hz;
+        gap = beyond hza k;
+        on = count-head _ _ _ refl;
+      }
+  spot-chain q a r (item b s ∷ l) z hz hza g k f =
+      go (decLt q b) (λ j. spot-chain q b s l z hz (omega (arith, g .0)) (g .1) j (f .1))
+    where
+      go : Dec (q < b) → (b < q → Spot q (chainOf h b s l z)) → Spot q (points a b (h r) ∷ chainOf h b s l z)
+      go (yes j) u =
+          record {
+            a = a;
+            b = b;
+            w = h r;
+            a-positive = omega arith;
+            b-positive = omega arith;
+            gap = between k j;
+            on = count-head _ _ _ refl;
+          }
+      go (no n) u = spot-behind _ (u (omega (arith, f .0)))
+
+  pub spot : (q a : ℕ) (r : R) (l : List (Item R)) → 0 < q → Ascending 0 (item a r ∷ l) → Unlisted q (item a r ∷ l)
+      → Spot q (ring h (item a r ∷ l))
+  spot q a r l hq g f = go (decLt q a)
+    where
+      go : Dec (q < a) → Spot q (chainOf h a r l a)
+      go (yes j) =
+          let t = last-leaf a r l a (g .1) in
+          record {
+            a = t .0;
+            b = a;
+            w = t .1;
+            a-positive = omega (arith, g .0, t .2);
+            b-positive = g .0;
+            gap = before (t .2) hq j;
+            on = t .3;
+          }
+      go (no n) = spot-chain q a r l a (g .0) (omega arith) (g .1) (omega (arith, f .0)) (f .1)
+
+  -- ── a listed item with its two leaves, where another item is listed too ──
+
+  near-chain : (q : ℕ) (s : R) (a : ℕ) (r : R) (l : List (Item R)) (z : ℕ) → 0 < z → z ≤ a → Ascending a l → Listed q s l
+      → Near q (h s) (chainOf h a r l z)
+  near-chain q s a r [] z hz hza g m = elim m [ ]
+  near-chain q s a r (item b t ∷ l) z hz hza g m =
+      go (List·Memᴰ·cases-cons m) (λ k. near-chain q s b t l z hz (omega (arith, g .0)) (g .1) k)
+    where
+      here : (l : List (Item R)) → Ascending b l → item q s ≡ item b t
+          → Near q (h s) (points a b (h r) ∷ chainOf h b t l z)
+      here [] k e =
+          let p : q ≡ b = cc in
+          record {
+            a = a;
+            b = z;
+            w = h r;
+            a-positive = omega arith;
+            b-positive = hz;
+            gap = beyond hza (omega (arith, g .0));
+            on = count-head _ _ _ (cc);
+            next = count-tail _ _ _ (count-head _ _ _ (cc));
+          }
+      here (item c t′ ∷ l′) k e =
+          let p : q ≡ b = cc in
+          record {
+            a = a;
+            b = c;
+            w = h r;
+            a-positive = omega arith;
+            b-positive = omega (arith, k .0);
+            gap = between (omega (arith, g .0)) (omega (arith, k .0));
+            on = count-head _ _ _ (cc);
+            next = count-tail _ _ _ (count-head _ _ _ (cc));
+          }
+
+      go : (item q s ≡ item b t) ⊎ Listed q s l → (Listed q s l → Near q (h s) (chainOf h b t l z))
+          → Near q (h s) (points a b (h r) ∷ chainOf h b t l z)
+      go (inl e) f = here l (g .1) e
+      go (inr k) f = near-behind _ (f k)
+
+  pub near : (q : ℕ) (s : R) (a : ℕ) (r : R) (b : ℕ) (t : R) (l : List (Item R)) → Ascending 0 (item a r ∷ item b t ∷ l)
+      → Listed q s (item a r ∷ item b t ∷ l) → Near q (h s) (ring h (item a r ∷ item b t ∷ l))
+  near q s a r b t l g m = go (List·Memᴰ·cases-cons m)
+    where
+      go : (item q s ≡ item a r) ⊎ Listed q s (item b t ∷ l) → Near q (h s) (ring h (item a r ∷ item b t ∷ l))
+      go (inl e) =
+          let p : q ≡ a = cc in
+          let u = last-leaf b t l a (g .1 .1) in
+          let m′ : 0 < count (points (u .0) q (u .1)) (chainOf h b t l a) = rw p (u .3) in
+          record {
+            a = u .0;
+            b = b;
+            w = u .1;
+            a-positive = omega (arith, g .1 .0, u .2);
+            b-positive = omega (arith, g .1 .0);
+            gap = before (u .2) (omega (arith, g .0)) (omega (arith, g .1 .0));
+            on = count-tail _ _ _ m′;
+            next = count-head _ _ _ (cc);
+          }
+      go (inr k) = near-chain q s a r (item b t ∷ l) a (g .0) (omega arith) (g .1) k

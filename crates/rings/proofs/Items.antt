@@ -1,0 +1,154 @@
+-- Laws of the list: inserting, removing and putting a record keep it ascending and keep what holds of every record; a
+-- number is listed or it is not; ascending lists with the same items are the same.
+use mathlib.Core.Bool.{Bool, true, false}
+use mathlib.Core.Path.{_≡_, refl, sym, subst}
+use mathlib.Core.List.{List, [], _∷_, List·Memᴰ·head, List·Memᴰ·tail, List·Memᴰ·cases-cons}
+use mathlib.Core.Logic.{_⊎_, inl, inr}
+use Prim.Native.Nat.{ℕ, _≤_, _<_}
+use native.Mathlib.Decide.{ℕ-discrete}
+use native.Mathlib.Omega.{arith}
+use borrow.Author.Tests.{ltb-true, ltb-false, eq-eqb}
+use lib.Dec.{eqb, ltb}
+use Rattle.seqs.specs.Choose.{pick}
+use Rattle.rings.specs.Lists.{Item, item, Ascending, Listed, Unlisted, insert, remove, putRecord}
+
+module _ {R : Type 0} where
+  -- P holds of every record of the list
+  abbrev pub AllRecords : (R → Type 0) → List (Item R) → Type 0
+  AllRecords P [] = Unit {0}
+  AllRecords P (item a r ∷ l) = P r × AllRecords P l
+
+  pub record-at : (P : R → Type 0) (l : List (Item R)) (a : ℕ) (r : R) → AllRecords P l → Listed a r l → P r
+  record-at P (item b s ∷ l) a r g (List·Memᴰ·head e) = let p : s ≡ r = cc in subst P p (g .0)
+  record-at P (item b s ∷ l) a r g (List·Memᴰ·tail m) = record-at P l a r (g .1) m
+
+  pub all-more : (P Q : R → Type 0) (l : List (Item R)) → ((r : R) → P r → Q r) → AllRecords P l → AllRecords Q l
+  all-more P Q [] f g = tt
+  all-more P Q (item a r ∷ l) f g = (f r (g .0), all-more P Q l f (g .1))
+
+  -- ── above a number ──
+
+  pub ascending-from : {b c : ℕ} (l : List (Item R)) → c ≤ b → Ascending b l → Ascending c l
+  ascending-from [] h g = tt
+  ascending-from (item a r ∷ l) h g = (omega arith, g .1)
+
+  pub unlisted-below : (b q : ℕ) (l : List (Item R)) → q ≤ b → Ascending b l → Unlisted q l
+  unlisted-below b q [] h g = tt
+  unlisted-below b q (item a r ∷ l) h g = (omega arith, unlisted-below a q l (omega arith) (g .1))
+
+  pub listed-above : (b q : ℕ) (r : R) (l : List (Item R)) → Ascending b l → Listed q r l → b < q
+  listed-above b q r [] g m = elim m [ ]
+  listed-above b q r (item a s ∷ l) g m = go (List·Memᴰ·cases-cons m) (λ k. listed-above a q r l (g .1) k)
+    where
+      go : (item q r ≡ item a s) ⊎ Listed q r l → (Listed q r l → a < q) → b < q
+      go (inl e) f = let p : q ≡ a = cc in omega (arith, g .0)
+      go (inr k) f = omega (arith, g .0, f k)
+
+  -- a number is listed or it is not
+  pub listed? : (q : ℕ) (l : List (Item R)) → Unlisted q l ⊎ ((r : R) × Listed q r l)
+  listed? q [] = inl tt
+  listed? q (item a r ∷ l) = go (ℕ-discrete q a) (listed? q l)
+    where
+      go : Dec (q ≡ a) → Unlisted q l ⊎ ((s : R) × Listed q s l)
+          → Unlisted q (item a r ∷ l) ⊎ ((s : R) × Listed q s (item a r ∷ l))
+      go (yes e) t = inr (r, List·Memᴰ·head {x = item a r} (cc))
+      go (no n) (inl f) = inl (n, f)
+      go (no n) (inr t) = inr (t .0, List·Memᴰ·tail (t .1))
+
+  -- ── insert ──
+
+  pub insert-ascending : (b q : ℕ) (r : R) (l : List (Item R)) → b < q → Unlisted q l → Ascending b l
+      → Ascending b (insert q r l)
+  unfolding insert
+  insert-ascending b q r [] h f g = (h, tt)
+  insert-ascending b q r (item a s ∷ l) h f g = go (ltb q a) refl (λ k. insert-ascending a q r l k (f .1) (g .1))
+    where
+      go : (t : Bool) → ltb q a ≡ t → (a < q → Ascending a (insert q r l))
+          → Ascending b (pick t (item q r ∷ item a s ∷ l) (item a s ∷ insert q r l))
+      go true e u = (h, (ltb-true q a e, g .1))
+      go false e u = (g .0, u (omega (arith, ltb-false q a e, f .0)))
+
+  pub insert-all : (P : R → Type 0) (q : ℕ) (r : R) (l : List (Item R)) → P r → AllRecords P l → AllRecords P (insert q r l)
+  unfolding insert
+  insert-all P q r [] p g = (p, tt)
+  insert-all P q r (item a s ∷ l) p g = go (ltb q a) (insert-all P q r l p (g .1))
+    where
+      go : (t : Bool) → AllRecords P (insert q r l) → AllRecords P (pick t (item q r ∷ item a s ∷ l) (item a s ∷ insert q r l))
+      go true u = (p, (g .0, g .1))
+      go false u = (g .0, u)
+
+  -- ── remove ──
+
+  pub remove-head : (a : ℕ) (r : R) (l : List (Item R)) → remove a (item a r ∷ l) ≡ l
+  unfolding remove
+  remove-head a r l = rw (eq-eqb a a refl) refl
+
+  pub remove-ascending : (b q : ℕ) (l : List (Item R)) → Ascending b l → Ascending b (remove q l)
+  unfolding remove
+  remove-ascending b q [] g = tt
+  remove-ascending b q (item a s ∷ l) g = go (eqb q a) (remove-ascending a q l (g .1))
+    where
+      go : (t : Bool) → Ascending a (remove q l) → Ascending b (pick t l (item a s ∷ remove q l))
+      go true u = ascending-from l (omega (arith, g .0)) (g .1)
+      go false u = (g .0, u)
+
+  pub remove-all : (P : R → Type 0) (q : ℕ) (l : List (Item R)) → AllRecords P l → AllRecords P (remove q l)
+  unfolding remove
+  remove-all P q [] g = tt
+  remove-all P q (item a s ∷ l) g = go (eqb q a) (remove-all P q l (g .1))
+    where
+      go : (t : Bool) → AllRecords P (remove q l) → AllRecords P (pick t l (item a s ∷ remove q l))
+      go true u = g .1
+      go false u = (g .0, u)
+
+  -- ── put a record ──
+
+  pub put-ascending : (b q : ℕ) (r : R) (l : List (Item R)) → Ascending b l → Ascending b (putRecord q r l)
+  unfolding putRecord
+  put-ascending b q r [] g = tt
+  put-ascending b q r (item a s ∷ l) g = go (eqb q a) (put-ascending a q r l (g .1))
+    where
+      go : (t : Bool) → Ascending a (putRecord q r l) → Ascending b (pick t (item a r ∷ l) (item a s ∷ putRecord q r l))
+      go true u = (g .0, g .1)
+      go false u = (g .0, u)
+
+  pub put-all : (P : R → Type 0) (q : ℕ) (r : R) (l : List (Item R)) → P r → AllRecords P l → AllRecords P (putRecord q r l)
+  unfolding putRecord
+  put-all P q r [] p g = tt
+  put-all P q r (item a s ∷ l) p g = go (eqb q a) (put-all P q r l p (g .1))
+    where
+      go : (t : Bool) → AllRecords P (putRecord q r l) → AllRecords P (pick t (item a r ∷ l) (item a s ∷ putRecord q r l))
+      go true u = (p, g .1)
+      go false u = (g .0, u)
+
+  -- ── ascending lists with the same items are the same ──
+
+  abbrev pub Into : List (Item R) → List (Item R) → Type 0
+  Into l m = (a : ℕ) (r : R) → Listed a r l → Listed a r m
+
+  -- an item above d is not the one of number d
+  past-head : (d : ℕ) (z : R) (m : List (Item R)) (q : ℕ) (t : R) → d < q → Listed q t (item d z ∷ m) → Listed q t m
+  past-head d z m q t h i = go (List·Memᴰ·cases-cons i)
+    where
+      go : (item q t ≡ item d z) ⊎ Listed q t m → Listed q t m
+      go (inl p) = let w : q ≡ d = cc in absurd (omega arith)
+      go (inr j) = j
+
+  pub same-items : (b : ℕ) (l m : List (Item R)) → Ascending b l → Ascending b m → Into l m → Into m l → l ≡ m
+  same-items b [] [] g k f h = refl
+  same-items b [] (item a r ∷ m) g k f h = elim (h a r (List·Memᴰ·head refl)) [ ]
+  same-items b (item a r ∷ l) [] g k f h = elim (f a r (List·Memᴰ·head refl)) [ ]
+  same-items b (item a r ∷ l) (item c s ∷ m) g k f h =
+      go (List·Memᴰ·cases-cons (f a r (List·Memᴰ·head refl))) (List·Memᴰ·cases-cons (h c s (List·Memᴰ·head refl)))
+      (λ e u v. same-items a l m (g .1) (subst (λ (n : ℕ). Ascending n m) (sym e) (k .1)) u v)
+    where
+      go : (item a r ≡ item c s) ⊎ Listed a r m → (item c s ≡ item a r) ⊎ Listed c s l → (a ≡ c → Into l m → Into m l → l ≡ m)
+          → _≡_ {A = List (Item R)} (item a r ∷ l) (item c s ∷ m)
+      go (inl e) j tails =
+          let p : a ≡ c = cc in
+          let t = tails p
+          (λ q t i. past-head c s m q t (omega (arith, listed-above a q t l (g .1) i)) (f q t (List·Memᴰ·tail i)))
+          (λ q t i. past-head a r l q t (omega (arith, listed-above c q t m (k .1) i)) (h q t (List·Memᴰ·tail i))) in
+          cc
+      go (inr i) (inl e) tails = let p : a ≡ c = cc in absurd (omega (arith, listed-above c a r m (k .1) i))
+      go (inr i) (inr j) tails = absurd (omega (arith, listed-above c a r m (k .1) i, listed-above a c s l (g .1) j))

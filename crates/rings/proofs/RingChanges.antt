@@ -1,0 +1,233 @@
+-- Which leaves of the ring change when an item is inserted or removed or a record is put: every leaf is counted on both
+-- sides.
+use mathlib.Core.Bool.{Bool, true, false}
+use mathlib.Core.Path.{_≡_, refl, ap}
+use mathlib.Core.List.{List, [], _∷_}
+use mathlib.Core.Logic.{_⊎_, inl, inr, _≢_}
+use Prim.Native.Nat.{ℕ, _+_, _≤_, _<_}
+use native.Mathlib.Omega.{arith}
+use borrow.Author.Tests.{ltb-true, ltb-false, eqb-true, eqb-false}
+use lib.Dec.{eqb, ltb}
+use Rattle.seqs.specs.Choose.{pick}
+use Rattle.paper.specs.Strings.{Dig}
+use Rattle.rings.specs.Trees.{Leaf, points, one, count}
+use Rattle.rings.specs.Lists.{Item, item, Ascending, Unlisted, insert, remove, putRecord, chainOf, ring}
+use Rattle.rings.proofs.Counting.{count-nil, count-cons, count-cases, count-single}
+use Rattle.rings.proofs.Gaps.{Gap, between, beyond, before}
+use Rattle.rings.proofs.Ring.{bounds, unlisted-in, rewrap}
+
+module _ {R : Type 0} (h : R → Dig) where
+  -- ── removing an item: its leaf goes, and the leaf before it leads on ──
+
+  remove-chain : (q A B : ℕ) (w v : Dig) (a : ℕ) (r : R) (l : List (Item R)) (z : ℕ) → z ≤ a → Ascending a l → a < q
+      → 0 < count (points A q w) (chainOf h a r l z) → 0 < count (points q B v) (chainOf h a r l z) → (x : Leaf)
+      → count x (chainOf h a r l z) + one x (points A B w)
+      ≡ count x (chainOf h a r (remove q l) z) + one x (points A q w) + one x (points q B v)
+  unfolding remove
+  remove-chain q A B w v a r [] z hz g hq m m′ x =
+      let e = count-single _ _ m in
+      let p : q ≡ z = cc in
+      absurd (omega arith)
+  remove-chain q A B w v a r (item b s ∷ l) z hz g hq m m′ x =
+      go (eqb q b) refl (count-cases _ _ _ m) (count-cases _ _ _ m′)
+      (λ u t t′. remove-chain q A B w v b s l z (omega (arith, g .0)) (g .1) u t t′ x)
+    where
+      last : (l : List (Item R)) → Ascending b l → q ≡ b → 0 < count (points q B v) (chainOf h b s l z)
+          → count x (chainOf h b s l z) + one x (points a B (h r)) ≡ count x (chainOf h a r l z) + one x (points q B v)
+      last [] k p t =
+          let e = count-single _ _ t in
+          let e′ : points a B (h r) ≡ points a z (h r) = cc in
+          simp (count-cons, count-nil) (omega (arith, ap (one x) e, ap (one x) e′))
+      last (item c s′ ∷ l′) k p t = on (count-cases _ _ _ t)
+        where
+          on : (points q B v ≡ points b c (h s)) ⊎ (0 < count (points q B v) (chainOf h c s′ l′ z))
+              → count x (points b c (h s) ∷ chainOf h c s′ l′ z) + one x (points a B (h r))
+              ≡ count x (points a c (h r) ∷ chainOf h c s′ l′ z) + one x (points q B v)
+          on (inl e) =
+              let e′ : points a B (h r) ≡ points a c (h r) = cc in
+              simp count-cons (omega (arith, ap (one x) e, ap (one x) e′))
+          on (inr t′) = absurd (omega (arith, k .0, (bounds h q B v c s′ l′ z (k .1) t′) .0))
+
+      go : (t : Bool) → eqb q b ≡ t → (points A q w ≡ points a b (h r)) ⊎ (0 < count (points A q w) (chainOf h b s l z))
+          → (points q B v ≡ points a b (h r)) ⊎ (0 < count (points q B v) (chainOf h b s l z))
+          → (b < q → 0 < count (points A q w) (chainOf h b s l z) → 0 < count (points q B v) (chainOf h b s l z)
+          → count x (chainOf h b s l z) + one x (points A B w)
+          ≡ count x (chainOf h b s (remove q l) z) + one x (points A q w) + one x (points q B v))
+          → count x (points a b (h r) ∷ chainOf h b s l z) + one x (points A B w)
+          ≡ count x (chainOf h a r (pick t l (item b s ∷ remove q l)) z) + one x (points A q w) + one x (points q B v)
+      go d i t (inl e) f = let p : q ≡ a = cc in absurd (omega arith)
+      go true i (inl e) (inr t′) f =
+          let p : q ≡ b = eqb-true q b i in
+          let e′ : points A B w ≡ points a B (h r) = cc in
+          simp count-cons (omega (arith, last l (g .1) p t′, ap (one x) e, ap (one x) e′))
+      go true i (inr t) (inr t′) f = absurd (off (eqb-true q b i) (bounds h A q w b s l z (g .1) t))
+        where
+          off : q ≡ b → (b ≤ A) × ((A < q) ⊎ (q ≡ z)) → ⊥
+          off p u = elim (u .1) [ inl k ↦ omega (arith, u .0) | inr k ↦ omega (arith, g .0) ]
+      go false i (inl e) (inr t′) f = absurd (eqb-false q b i (cc))
+      go false i (inr t) (inr t′) f =
+          simp count-cons
+          (omega (arith, f (omega (arith, eqb-false q b i, (bounds h q B v b s l z (g .1) t′) .0)) t t′))
+
+  pub remove-ring : (q A B : ℕ) (w v : Dig) (ls : List (Item R)) → Ascending 0 ls → A ≢ q → 0 < count (points A q w) (ring h ls)
+      → 0 < count (points q B v) (ring h ls) → (x : Leaf)
+      → count x (ring h ls) + one x (points A B w) ≡ count x (ring h (remove q ls)) + one x (points A q w) + one x (points q B v)
+  unfolding remove
+  remove-ring q A B w v [] g n m m′ x = absurd (omega (arith, count-nil (points A q w)))
+  remove-ring q A B w v (item a r ∷ l) g n m m′ x = go (eqb q a) refl
+    where
+      first : (l : List (Item R)) → Ascending a l → q ≡ a → 0 < count (points A q w) (chainOf h a r l a)
+          → 0 < count (points q B v) (chainOf h a r l a)
+          → count x (chainOf h a r l a) + one x (points A B w) ≡ count x (ring h l) + one x (points A q w) + one x (points q B v)
+      first [] k p t t′ = let e = count-single _ _ t in absurd (n (cc))
+      first (item b s ∷ l′) k p t t′ = on (count-cases _ _ _ t) (count-cases _ _ _ t′)
+        where
+          on : (points A q w ≡ points a b (h r)) ⊎ (0 < count (points A q w) (chainOf h b s l′ a))
+              → (points q B v ≡ points a b (h r)) ⊎ (0 < count (points q B v) (chainOf h b s l′ a))
+              → count x (points a b (h r) ∷ chainOf h b s l′ a) + one x (points A B w)
+              ≡ count x (chainOf h b s l′ b) + one x (points A q w) + one x (points q B v)
+          on (inl e) u = absurd (n (cc))
+          on (inr u) (inr u′) = absurd (omega (arith, k .0, (bounds h q B v b s l′ a (k .1) u′) .0))
+          on (inr u) (inl e) =
+              let u′ : 0 < count (points A a w) (chainOf h b s l′ a) = rw p at u in
+              let e₁ : points A b w ≡ points A B w = cc in
+              let e₂ : points A a w ≡ points A q w = cc in
+              let wrapped = rewrap h A w b s l′ a b (omega (arith, k .0)) (k .1) u′ x in
+              simp count-cons (omega (arith, wrapped, ap (one x) e, ap (one x) e₁, ap (one x) e₂))
+
+      go : (t : Bool) → eqb q a ≡ t → count x (chainOf h a r l a) + one x (points A B w)
+          ≡ count x (ring h (pick t l (item a r ∷ remove q l))) + one x (points A q w) + one x (points q B v)
+      go true i = first l (g .1) (eqb-true q a i) m m′
+      go false i =
+          remove-chain q A B w v a r l a (omega arith) (g .1)
+          (omega (arith, eqb-false q a i, (bounds h q B v a r l a (g .1) m′) .0)) m m′ x
+
+  -- ── putting a record: one leaf has another hash ──
+
+  put-head : (B : ℕ) (w : Dig) (r : R) (a : ℕ) (s : R) (l : List (Item R)) (z : ℕ) → Ascending a l
+      → 0 < count (points a B w) (chainOf h a s l z) → (x : Leaf)
+      → count x (chainOf h a r l z) + one x (points a B w) ≡ count x (chainOf h a s l z) + one x (points a B (h r))
+  put-head B w r a s [] z g m x =
+      let e = count-single _ _ m in
+      let e′ : points a B (h r) ≡ points a z (h r) = cc in
+      simp (count-cons, count-nil) (omega (arith, ap (one x) e, ap (one x) e′))
+  put-head B w r a s (item b t ∷ l) z g m x = go (count-cases _ _ _ m)
+    where
+      go : (points a B w ≡ points a b (h s)) ⊎ (0 < count (points a B w) (chainOf h b t l z))
+          → count x (points a b (h r) ∷ chainOf h b t l z) + one x (points a B w)
+          ≡ count x (points a b (h s) ∷ chainOf h b t l z) + one x (points a B (h r))
+      go (inl e) =
+          let e′ : points a B (h r) ≡ points a b (h r) = cc in
+          simp count-cons (omega (arith, ap (one x) e, ap (one x) e′))
+      go (inr u) = absurd (omega (arith, g .0, (bounds h a B w b t l z (g .1) u) .0))
+
+  put-tail : (A B : ℕ) (w : Dig) (r : R) (a : ℕ) (s : R) (l : List (Item R)) (z : ℕ) → A ≢ a → Ascending a l
+      → 0 < count (points A B w) (chainOf h a s l z) → (x : Leaf)
+      → count x (chainOf h a s (putRecord A r l) z) + one x (points A B w)
+      ≡ count x (chainOf h a s l z) + one x (points A B (h r))
+  unfolding putRecord
+  put-tail A B w r a s [] z n g m x = let e = count-single _ _ m in absurd (n (cc))
+  put-tail A B w r a s (item b t ∷ l) z n g m x =
+      go (eqb A b) refl (count-cases _ _ _ m) (λ k u. put-tail A B w r b t l z k (g .1) u x)
+    where
+      go : (d : Bool) → eqb A b ≡ d → (points A B w ≡ points a b (h s)) ⊎ (0 < count (points A B w) (chainOf h b t l z))
+          → (A ≢ b → 0 < count (points A B w) (chainOf h b t l z)
+          → count x (chainOf h b t (putRecord A r l) z) + one x (points A B w)
+          ≡ count x (chainOf h b t l z) + one x (points A B (h r)))
+          → count x (chainOf h a s (pick d (item b r ∷ l) (item b t ∷ putRecord A r l)) z) + one x (points A B w)
+          ≡ count x (points a b (h s) ∷ chainOf h b t l z) + one x (points A B (h r))
+      go d i (inl e) f = absurd (n (cc))
+      go true i (inr u) f =
+          let p : A ≡ b = eqb-true A b i in
+          let u′ : 0 < count (points b B w) (chainOf h b t l z) = rw p at u in
+          let e₁ : points b B w ≡ points A B w = cc in
+          let e₂ : points b B (h r) ≡ points A B (h r) = cc in
+          simp count-cons (omega (arith, put-head B w r b t l z (g .1) u′ x, ap (one x) e₁, ap (one x) e₂))
+      go false i (inr u) f = simp count-cons (omega (arith, f (eqb-false A b i) u))
+
+  pub put-ring : (A B : ℕ) (w : Dig) (r : R) (ls : List (Item R)) → Ascending 0 ls → 0 < count (points A B w) (ring h ls)
+      → (x : Leaf) → count x (ring h (putRecord A r ls)) + one x (points A B w) ≡ count x (ring h ls) + one x (points A B (h r))
+  unfolding putRecord
+  put-ring A B w r [] g m x = absurd (omega (arith, count-nil (points A B w)))
+  put-ring A B w r (item a s ∷ l) g m x = go (eqb A a) refl
+    where
+      go : (d : Bool) → eqb A a ≡ d
+          → count x (ring h (pick d (item a r ∷ l) (item a s ∷ putRecord A r l))) + one x (points A B w)
+          ≡ count x (chainOf h a s l a) + one x (points A B (h r))
+      go true i =
+          let p : A ≡ a = eqb-true A a i in
+          let u′ : 0 < count (points a B w) (chainOf h a s l a) = rw p at m in
+          let e₁ : points a B w ≡ points A B w = cc in
+          let e₂ : points a B (h r) ≡ points A B (h r) = cc in
+          omega (arith, put-head B w r a s l a (g .1) u′ x, ap (one x) e₁, ap (one x) e₂)
+      go false i = put-tail A B w r a s l a (eqb-false A a i) (g .1) m x
+
+  -- ── inserting an item: the leaf in whose gap it lies leads to it, and it leads on ──
+
+  insert-chain : (q A B : ℕ) (w : Dig) (new : R) (a : ℕ) (r : R) (l : List (Item R)) (z : ℕ) → z ≤ a → Ascending a l → a < q
+      → Unlisted q l → Gap A B q → 0 < count (points A B w) (chainOf h a r l z) → (x : Leaf)
+      → count x (chainOf h a r (insert q new l) z) + one x (points A B w)
+      ≡ count x (chainOf h a r l z) + one x (points A q w) + one x (points q B (h new))
+  unfolding insert
+  insert-chain q A B w new a r [] z hz g hq f k m x =
+      let e = count-single _ _ m in
+      let e₁ : points A q w ≡ points a q (h r) = cc in
+      let e₂ : points q B (h new) ≡ points q z (h new) = cc in
+      simp (count-cons, count-nil) (omega (arith, ap (one x) e, ap (one x) e₁, ap (one x) e₂))
+  insert-chain q A B w new a r (item b s ∷ l) z hz g hq f k m x =
+      go (ltb q b) refl (count-cases _ _ _ m)
+      (λ u t. insert-chain q A B w new b s l z (omega (arith, g .0)) (g .1) u (f .1) k t x)
+    where
+      off : q < b → b ≤ A → (A < B) ⊎ (B ≡ z) → Gap A B q → ⊥
+      off u v t (between k₁ k₂) = omega arith
+      off u v t (beyond k₁ k₂) = omega arith
+      off u v (inl t) (before k₁ k₂ k₃) = omega arith
+      off u v (inr t) (before k₁ k₂ k₃) = omega arith
+
+      up : A ≡ a → B ≡ b → Gap A B q → q < b
+      up u v (between k₁ k₂) = omega arith
+      up u v (beyond k₁ k₂) = absurd (omega (arith, g .0))
+      up u v (before k₁ k₂ k₃) = omega arith
+
+      go : (d : Bool) → ltb q b ≡ d → (points A B w ≡ points a b (h r)) ⊎ (0 < count (points A B w) (chainOf h b s l z))
+          → (b < q → 0 < count (points A B w) (chainOf h b s l z)
+          → count x (chainOf h b s (insert q new l) z) + one x (points A B w)
+          ≡ count x (chainOf h b s l z) + one x (points A q w) + one x (points q B (h new)))
+          → count x (chainOf h a r (pick d (item q new ∷ item b s ∷ l) (item b s ∷ insert q new l)) z) + one x (points A B w)
+          ≡ count x (points a b (h r) ∷ chainOf h b s l z) + one x (points A q w) + one x (points q B (h new))
+      go true u (inl e) i =
+          let e₁ : points A q w ≡ points a q (h r) = cc in
+          let e₂ : points q B (h new) ≡ points q b (h new) = cc in
+          simp count-cons (omega (arith, ap (one x) e, ap (one x) e₁, ap (one x) e₂))
+      go true u (inr t) i =
+          let v = bounds h A B w b s l z (g .1) t in
+          absurd (off (ltb-true q b u) (v .0) (v .1) k)
+      go false u (inl e) i = absurd (omega (arith, ltb-false q b u, up (cc) (cc) k))
+      go false u (inr t) i = simp count-cons (omega (arith, i (omega (arith, ltb-false q b u, f .0)) t))
+
+  pub insert-ring : (q A B : ℕ) (w : Dig) (new : R) (ls : List (Item R)) → Ascending 0 ls → Gap A B q
+      → 0 < count (points A B w) (ring h ls) → (x : Leaf)
+      → count x (ring h (insert q new ls)) + one x (points A B w)
+      ≡ count x (ring h ls) + one x (points A q w) + one x (points q B (h new))
+  unfolding insert
+  insert-ring q A B w new [] g k m x = absurd (omega (arith, count-nil (points A B w)))
+  insert-ring q A B w new (item a r ∷ l) g k m x = go (ltb q a) refl (unlisted-in h q A B w a r l a (omega arith) (g .1) k m)
+    where
+      wrap : q < a → a ≤ A → (A < B) ⊎ (B ≡ a) → Gap A B q → B ≡ a
+      wrap u v (inr t) k = t
+      wrap u v (inl t) (between k₁ k₂) = absurd (omega arith)
+      wrap u v (inl t) (beyond k₁ k₂) = absurd (omega arith)
+      wrap u v (inl t) (before k₁ k₂ k₃) = absurd (omega arith)
+
+      go : (d : Bool) → ltb q a ≡ d → Unlisted q (item a r ∷ l)
+          → count x (ring h (pick d (item q new ∷ item a r ∷ l) (item a r ∷ insert q new l))) + one x (points A B w)
+          ≡ count x (chainOf h a r l a) + one x (points A q w) + one x (points q B (h new))
+      go true u f =
+          let v = bounds h A B w a r l a (g .1) m in
+          let p : B ≡ a = wrap (ltb-true q a u) (v .0) (v .1) k in
+          let m′ : 0 < count (points A a w) (chainOf h a r l a) = rw p at m in
+          let e₁ : points q B (h new) ≡ points q a (h new) = cc in
+          let e₂ : points A B w ≡ points A a w = cc in
+          simp count-cons (omega (arith, rewrap h A w a r l a q (omega arith) (g .1) m′ x, ap (one x) e₁, ap (one x) e₂))
+      go false u f =
+          insert-chain q A B w new a r l a (omega arith) (g .1) (omega (arith, ltb-false q a u, f .0)) (f .1) k m x
