@@ -7,3 +7,10 @@ pub mod Items
 pub mod Ring
 pub mod RingChanges
 pub mod Find
+pub mod Steps
+pub mod Records
+pub mod Memos
+pub mod TreeKinds
+pub mod RingKinds
+pub mod ListKinds
+pub mod Same

@@ -1,0 +1,106 @@
+-- What kinds 0b to 0f do, or find, where a tree stands for the list: adopt, set and clear, ask, and ask of none.
+use mathlib.Core.Path.{_≡_, refl, sym, subst, _∙_}
+use mathlib.Core.List.{List, []}
+use mathlib.Core.Logic.{_⊎_, inr}
+use Prim.Native.Nat.{ℕ, _+_, _<_}
+use native.Mathlib.Omega.{arith}
+use Rattle.paper.specs.declared.Record.{Record}
+use Rattle.paper.specs.Strings.{Dig, nought, Str, leaf}
+use Rattle.rings.specs.Trees.{Leaf, points, Tree, tip, one, count}
+use Rattle.rings.specs.Lists.{Item, Listed, Unlisted, putRecord, ring}
+use Rattle.rings.specs.Changes.{Step}
+use Rattle.rings.proofs.Counting.{one-self, count-nil, count-only}
+use Rattle.rings.proofs.Nodes.{_∈_, hash, Fault, _>>=_, no-leaf, only-leaf}
+use Rattle.rings.proofs.Align.{Sibling, fold, PathIn, Hole, align}
+use Rattle.rings.proofs.Gaps.{Gap}
+use Rattle.rings.proofs.Items.{AllRecords, record-at, put-ascending, put-all}
+use Rattle.rings.proofs.Ring.{leaf-item, gap-free}
+use Rattle.rings.proofs.RingChanges.{put-ring}
+use Rattle.rings.proofs.Records.{hashRecord, Known, same-record}
+use Rattle.rings.proofs.Memos.{StandsFor, MeansU1, MeansV1, MeansEI, Moved}
+use Rattle.rings.proofs.RingKinds.{no-items}
+
+module _ (D : Str → Dig) where
+  abbrev ringOf : List (Item Record) → List Leaf
+  ringOf ls = ring (hashRecord D) ls
+
+  abbrev leafOf : (A B : ℕ) → Record → Str
+  leafOf A B r = leaf A B (hashRecord D r)
+
+  -- ── 0b adopt: what its memorandum stands for is done, and was legal ──
+
+  pub adopt : {F : List Str} {y y′ : Dig} {c : List Step} (T : Tree) (ls : List (Item Record)) → MeansEI D F y y′ c
+      → hash D T ≡ y → StandsFor D F T ls → Fault D F ⊎ Moved D F y′ c ls
+  adopt {F} T ls m e g = m .forth F (λ s i. i) T ls e g
+
+  -- ── one place of a tree ──
+
+  -- the leaf at the end of a path that folds it to the tree's hash is a leaf of the ring
+  at-leaf : {F : List Str} (p : List Sibling) (A B : ℕ) (w : Dig) (y : Dig) (T : Tree) (ls : List (Item Record)) → leaf A B w ∈ F
+      → fold D p (D (leaf A B w)) ≡ y → PathIn D F p (D (leaf A B w)) → hash D T ≡ y → StandsFor D F T ls
+      → Fault D F
+      ⊎ ((t : Hole D F p (D (leaf A B w)) T) × ((x : Leaf) → count x (ringOf ls) ≡ one x (points A B w) + count x (t .rest)))
+  at-leaf p A B w y T ls m u i e g = do
+    t ← align D p (D (leaf A B w)) T (u ∙ sym e) (g .tree-in) i
+    a ← only-leaf D (t .part) A B w m (t .part-hash) (t .part-in)
+    inr (t, λ x. omega (arith, g .permuted x, t .cut x, count-only x (points A B w) _ a))
+
+  -- a leaf of the ring with a known record's hash stands for an item with that record
+  pub leaf-record : {F : List Str} (A B : ℕ) (r : Record) (ls : List (Item Record)) → Known D F r → AllRecords (Known D F) ls
+      → 0 < count (points A B (hashRecord D r)) (ringOf ls) → Fault D F ⊎ Listed A r ls
+  leaf-record {F} A B r ls o g p = do
+    let t = leaf-item (hashRecord D) A B (hashRecord D r) ls p
+    c ← same-record D (t .0) r (record-at (Known D F) ls A (t .0) g (t .1)) o (t .2)
+    inr (subst (λ (s : Record). Listed A s ls) c (t .1))
+
+  -- ── 0c set, 0d clear: the item had the old record and has the new one ──
+
+  pub record Put (F : List Str) (y : Dig) (A : ℕ) (old new : Record) (ls : List (Item Record)) : Type 0 where
+    pub tree : Tree
+    pub tree-hash : hash D tree ≡ y
+    pub was : Listed A old ls
+    pub stands : StandsFor D F tree (putRecord A new ls)
+
+  pub put : {F : List Str} {y y′ : Dig} (A B : ℕ) (old new : Record) (T : Tree) (ls : List (Item Record)) → Known D F old
+      → Known D F new → leafOf A B old ∈ F → leafOf A B new ∈ F
+      → MeansU1 D F (D (leafOf A B old)) y (D (leafOf A B new)) y′ → hash D T ≡ y → StandsFor D F T ls
+      → Fault D F ⊎ Put F y′ A old new ls
+  put {F} {y} {y′} A B old new T ls o o′ m m′ u e g = do
+    let w = hashRecord D old
+    t ← at-leaf (u .path) A B w y T ls m (u .up) (u .on) e g
+    let p : 0 < count (points A B w) (ringOf ls) = omega (arith, t .1 (points A B w), one-self (points A B w))
+    q ← leaf-record A B old ls o (g .known) p
+    let v = t .0 .fill (tip (points A B (hashRecord D new))) (D (leafOf A B new)) refl m′ (u .on′)
+    let turned = put-ring (hashRecord D) A B w new ls (g .ascending) p
+    inr (record {
+      tree = v .tree;
+      tree-hash = v .tree-hash ∙ u .up′;
+      was = q;
+      stands = record {
+        tree-in = v .tree-in;
+        ascending = put-ascending 0 A new ls (g .ascending);
+        known = put-all (Known D F) A new ls o′ (g .known);
+        permuted = λ x.
+            omega (arith, v .holds x, t .1 x, turned x, count-only x (points A B (hashRecord D new)) _ refl);
+      };
+    })
+
+  -- ── 0e ask: the item has the record, and nothing is listed in its leaf's gap ──
+
+  pub ask : {F : List Str} {y : Dig} (A B : ℕ) (r : Record) (T : Tree) (ls : List (Item Record)) → Known D F r → leafOf A B r ∈ F
+      → MeansV1 D F (D (leafOf A B r)) y → hash D T ≡ y → StandsFor D F T ls
+      → Fault D F ⊎ (Listed A r ls × ((q : ℕ) → Gap A B q → Unlisted q ls))
+  ask {F} {y} A B r T ls o m u e g = do
+    let w = hashRecord D r
+    t ← at-leaf (u .path) A B w y T ls m (u .up) (u .on) e g
+    let p : 0 < count (points A B w) (ringOf ls) = omega (arith, t .1 (points A B w), one-self (points A B w))
+    q ← leaf-record A B r ls o (g .known) p
+    inr (q, λ n k. gap-free (hashRecord D) n A B w ls (g .ascending) k p)
+
+  -- ── 0f ask of none: nothing is listed ──
+
+  pub ask-none : {F : List Str} (T : Tree) (ls : List (Item Record)) → hash D T ≡ nought → StandsFor D F T ls
+      → Fault D F ⊎ (ls ≡ [])
+  ask-none T ls e g = do
+    n ← no-leaf D T e (g .tree-in)
+    inr (no-items D ls (λ x. sym (g .permuted x) ∙ rw n (count-nil x)))
