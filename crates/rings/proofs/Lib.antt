@@ -14,3 +14,7 @@ pub mod TreeKinds
 pub mod RingKinds
 pub mod ListKinds
 pub mod Same
+pub mod Endings
+pub mod Bridge
+pub mod Paths
+pub mod InPaper
