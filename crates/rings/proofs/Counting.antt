@@ -1,6 +1,6 @@
 -- Laws of counting leaves: how often a leaf occurs in an appended list, and where it occurs at all.
 use mathlib.Core.Path.{_≡_, refl, ap, _∙_}
-use mathlib.Core.List.{List, [], _∷_, _++_}
+use mathlib.Core.List.{List, [], _∷_, _++_, List·Memᴰ, List·Memᴰ·head, List·Memᴰ·tail}
 use mathlib.Core.Logic.{_⊎_, inl, inr}
 use Prim.Native.Nat.{_+_, _<_}
 use native.Mathlib.Omega.{arith}
@@ -58,3 +58,12 @@ count-head x y l e = omega (arith, count-cons x y l, ap (one x) e, one-self x)
 
 pub count-tail : (x y : Leaf) (l : List Leaf) → 0 < count x l → 0 < count x (y ∷ l)
 count-tail x y l h = omega (arith, count-cons x y l)
+
+-- a leaf that occurs is in the list
+pub occurs : (x : Leaf) (l : List Leaf) → 0 < count x l → List·Memᴰ x l
+occurs x [] h = absurd (omega (arith, count-nil x))
+occurs x (y ∷ l) h = here (count-cases x y l h) (occurs x l)
+  where
+    here : (x ≡ y) ⊎ (0 < count x l) → (0 < count x l → List·Memᴰ x l) → List·Memᴰ x (y ∷ l)
+    here (inl e) f = List·Memᴰ·head e
+    here (inr k) f = List·Memᴰ·tail (f k)

@@ -3,14 +3,14 @@
 -- `RingKinds`.)
 use mathlib.Core.Bool.{true, false}
 use mathlib.Core.Path.{_≡_, refl, sym, _∙_}
-use mathlib.Core.List.{List, [], _∷_, List·Memᴰ·head, List·Memᴰ·tail, Memᴰ·append-left, Memᴰ·append-right}
+use mathlib.Core.List.{List, [], _∷_, List·Memᴰ·head, List·Memᴰ·tail, Memᴰ·append-left, Memᴰ·append-right, List·Memᴰ}
 use mathlib.Core.Logic.{_⊎_, inl, inr}
 use Prim.Native.Nat.{ℕ}
 use lib.ListN.{length}
 use Rattle.paper.specs.declared.Record.{Record}
 use Rattle.paper.specs.Strings.{Dig, nought, Str, leaf, malformed, inGap, recordForms, parentForms, digest, recordHash, H}
 use Rattle.paper.specs.Refusals.{placeForms, leafOf, leafForms, changeForms}
-use Rattle.rings.specs.Trees.{Tree, leaves, hashOf, Permuted}
+use Rattle.rings.specs.Trees.{points, Tree, leaves, hashOf, Permuted}
 use Rattle.rings.specs.Lists.{Item, Listed, Unlisted, ring}
 use Rattle.rings.specs.Changes.{Step, removal}
 use Rattle.rings.proofs.Nodes.{_∈_, Within, Fault}
@@ -92,18 +92,24 @@ module _ (D : List ℕ → Dig) (D32 : (l : List ℕ) → length (D l) ≡ 32) (
       L.put digestD A A′ old new T ls (known A A′ old w i₁) (known A A′ new w′ i₂) (formed A A′ old i₁) (formed A A′ new i₂) u
       (sym (hash-is D D32 T) ∙ e) g
 
-  -- 0e ask: for every q in the gap
+  -- 0e ask: the item has the record, no number in the gap is listed, and the leaf is one of the ring
+  abbrev pub Found : (A A′ : ℕ) → Record → List (Item Record) → Type 0
+  Found A A′ r ls =
+      Listed A r ls × ((q : ℕ) → inGap q A A′ ≡ true → Unlisted q ls)
+      × List·Memᴰ (points A A′ (recordHash D r)) (ring (recordHash D) ls)
+
   pub ask : {y : Dig} (A A′ : ℕ) (r : Record) (T : Tree) (ls : List (Item Record)) → malformed r ≡ false
       → Within (leafForms D A A′ r) F → MeansV1 digestD F (digestD (leafOf D A A′ r)) y → hashOf D T ≡ y
-      → StandsFor digestD F T ls → Fault digestD F ⊎ (Listed A r ls × ((q : ℕ) → inGap q A A′ ≡ true → Unlisted q ls))
+      → StandsFor digestD F T ls → Fault digestD F ⊎ Found A A′ r ls
   unfolding recordHash hashRecord
   ask {y} A A′ r T ls w i u e g =
       go (L.ask digestD A A′ r T ls (known A A′ r w i) (formed A A′ r i) u (sym (hash-is D D32 T) ∙ e) g)
     where
-      go : Fault digestD F ⊎ (Listed A r ls × ((q : ℕ) → Gap A A′ q → Unlisted q ls))
-          → Fault digestD F ⊎ (Listed A r ls × ((q : ℕ) → inGap q A A′ ≡ true → Unlisted q ls))
+      go : Fault digestD F
+          ⊎ (Listed A r ls × ((q : ℕ) → Gap A A′ q → Unlisted q ls) × List·Memᴰ (points A A′ (hashRecord digestD r)) (ring (hashRecord digestD) ls))
+          → Fault digestD F ⊎ Found A A′ r ls
       go (inl f) = inl f
-      go (inr t) = inr (t .0, λ q k. t .1 q (gap-holds q A A′ k))
+      go (inr t) = inr (t .0, (λ q k. t .1 q (gap-holds q A A′ k)), t .2)
 
   -- 0f ask of none
   pub ask-none : (T : Tree) (ls : List (Item Record)) → hashOf D T ≡ nought → StandsFor digestD F T ls

@@ -1,6 +1,6 @@
 -- What kinds 0b to 0f do, or find, where a tree stands for the list: adopt, set and clear, ask, and ask of none.
 use mathlib.Core.Path.{_≡_, refl, sym, subst, _∙_}
-use mathlib.Core.List.{List, []}
+use mathlib.Core.List.{List, [], List·Memᴰ}
 use mathlib.Core.Logic.{_⊎_, inr}
 use Prim.Native.Nat.{ℕ, _+_, _<_}
 use native.Mathlib.Omega.{arith}
@@ -9,7 +9,7 @@ use Rattle.paper.specs.Strings.{Dig, nought, Str, leaf}
 use Rattle.rings.specs.Trees.{Leaf, points, Tree, tip, one, count}
 use Rattle.rings.specs.Lists.{Item, Listed, Unlisted, putRecord, ring}
 use Rattle.rings.specs.Changes.{Step}
-use Rattle.rings.proofs.Counting.{one-self, count-nil, count-only}
+use Rattle.rings.proofs.Counting.{one-self, count-nil, count-only, occurs}
 use Rattle.rings.proofs.Nodes.{_∈_, hash, Fault, _>>=_, no-leaf, only-leaf}
 use Rattle.rings.proofs.Align.{Sibling, fold, PathIn, Hole, align}
 use Rattle.rings.proofs.Gaps.{Gap}
@@ -85,17 +85,17 @@ module _ (D : Str → Dig) where
       };
     })
 
-  -- ── 0e ask: the item has the record, and nothing is listed in its leaf's gap ──
+  -- ── 0e ask: the item has the record, nothing is listed in its leaf's gap, and the leaf is one of the ring ──
 
   pub ask : {F : List Str} {y : Dig} (A B : ℕ) (r : Record) (T : Tree) (ls : List (Item Record)) → Known D F r → leafOf A B r ∈ F
       → MeansV1 D F (D (leafOf A B r)) y → hash D T ≡ y → StandsFor D F T ls
-      → Fault D F ⊎ (Listed A r ls × ((q : ℕ) → Gap A B q → Unlisted q ls))
+      → Fault D F ⊎ (Listed A r ls × ((q : ℕ) → Gap A B q → Unlisted q ls) × List·Memᴰ (points A B (hashRecord D r)) (ringOf ls))
   ask {F} {y} A B r T ls o m u e g = do
     let w = hashRecord D r
     t ← at-leaf (u .path) A B w y T ls m (u .up) (u .on) e g
     let p : 0 < count (points A B w) (ringOf ls) = omega (arith, t .1 (points A B w), one-self (points A B w))
     q ← leaf-record A B r ls o (g .known) p
-    inr (q, λ n k. gap-free (hashRecord D) n A B w ls (g .ascending) k p)
+    inr (q, (λ n k. gap-free (hashRecord D) n A B w ls (g .ascending) k p), occurs (points A B w) (ringOf ls) p)
 
   -- ── 0f ask of none: nothing is listed ──
 

@@ -1,0 +1,159 @@
+-- An accepted request: no check of its list fails, and every string of its checks and its answer is formed. And back: where
+-- no check fails, it is accepted.
+use mathlib.Core.Path.{_≡_, refl, sym, ap, subst, _∙_}
+use mathlib.Core.Bool.{Bool, true, false, true≢false}
+use mathlib.Core.List.{List, [], _∷_, _++_, List·Memᴰ, List·Memᴰ·head, List·Memᴰ·tail, Memᴰ·append-left, Memᴰ·append-right}
+use Prim.Native.Nat.{ℕ}
+use borrow.Author.Tests.{eqb-true, eq-eqb}
+use lib.Dec.{eqb}
+use Rattle.seqs.specs.Choose.{pick, both, either, opposite, both-true}
+use Rattle.paper.specs.declared.Registers.{Registers}
+use Rattle.paper.specs.Strings.{Dig, Str}
+use Rattle.paper.specs.Requests.{Request}
+use Rattle.paper.specs.Refusals.{Check, those, anyFails, formsAll, applies, formedAt, passed, judge}
+use Rattle.paper.specs.Answers.{answer}
+use Rattle.paper.specs.Module.{Told, told}
+use Rattle.paper.proofs.Verdicts.{firstOf, number-is, Passed}
+
+-- none of some checks fails
+abbrev pub NoneFails : List Check → Type 0
+NoneFails [] = Unit {0}
+NoneFails (c ∷ cs) = (c .fails ≡ false) × NoneFails cs
+
+-- a number is one of some numbers
+abbrev pub among : ℕ → List ℕ → Bool
+among n [] = false
+among n (i ∷ ns) = either (eqb i n) (among n ns)
+
+-- every check has one of the numbers
+abbrev pub numbered : List ℕ → List Check → Bool
+numbered ns [] = true
+numbered ns (c ∷ cs) = both (among (c .number) ns) (numbered ns cs)
+
+-- ── a check in its list ──
+
+in-those : (c : Check) (cs : List Check) → List·Memᴰ c cs → List·Memᴰ c (those (c .number) cs)
+in-those c (d ∷ cs) (List·Memᴰ·head e) = at-head (eqb (d .number) (c .number)) (eq-eqb _ _ (ap (λ (x : Check). x .number) (sym e)))
+  where
+    at-head : (b : Bool) → b ≡ true → List·Memᴰ c (pick b (d ∷ those (c .number) cs) (those (c .number) cs))
+    at-head true h = List·Memᴰ·head e
+    at-head false h = absurd (true≢false (sym h))
+in-those c (d ∷ cs) (List·Memᴰ·tail m) = behind (eqb (d .number) (c .number)) (in-those c cs m)
+  where
+    behind : (b : Bool) → List·Memᴰ c (those (c .number) cs)
+        → List·Memᴰ c (pick b (d ∷ those (c .number) cs) (those (c .number) cs))
+    behind true i = List·Memᴰ·tail i
+    behind false i = i
+
+either-false : (a b : Bool) → either a b ≡ false → (a ≡ false) × (b ≡ false)
+either-false true b h = absurd (true≢false h)
+either-false false b h = (refl, h)
+
+fails-not : (c : Check) (cs : List Check) → anyFails cs ≡ false → List·Memᴰ c cs → c .fails ≡ false
+fails-not c (d ∷ cs) h (List·Memᴰ·head e) = ap (λ (x : Check). x .fails) e ∙ either-false (d .fails) (anyFails cs) h .0
+fails-not c (d ∷ cs) h (List·Memᴰ·tail m) = fails-not c cs (either-false (d .fails) (anyFails cs) h .1) m
+
+-- ── passed, number by number and check by check ──
+
+passed-at : (n : ℕ) (ns : List ℕ) (cs : List Check) → Passed ns cs → among n ns ≡ true → applies n cs ≡ false
+passed-at n [] cs h a = absurd (true≢false (sym a))
+passed-at n (i ∷ ns) cs h a = here (eqb i n) refl (passed-at n ns cs (h .1)) a
+  where
+    here : (b : Bool) → eqb i n ≡ b → (among n ns ≡ true → applies n cs ≡ false) → either b (among n ns) ≡ true
+        → applies n cs ≡ false
+    here true e later a = subst (λ (k : ℕ). applies k cs ≡ false) (eqb-true i n e) (h .0)
+    here false e later a = later a
+
+none-of : (ns : List ℕ) (cs ds : List Check) → Passed ns cs → numbered ns ds ≡ true
+    → ((c : Check) → List·Memᴰ c ds → List·Memᴰ c cs) → NoneFails ds
+none-of ns cs [] h k sub = tt
+none-of ns cs (d ∷ ds) h k sub =
+    let p = both-true (among (d .number) ns) (numbered ns ds) k in (
+      fails-not d (those (d .number) cs) (passed-at (d .number) ns cs h (p .0)) (in-those d cs (sub d (List·Memᴰ·head refl))),
+      none-of ns cs ds h (p .1) (λ c m. sub c (List·Memᴰ·tail m)),
+    )
+
+pub none-fails : (ns : List ℕ) (cs : List Check) → Passed ns cs → numbered ns cs ≡ true → NoneFails cs
+none-fails ns cs h k = none-of ns cs cs h k (λ c m. m)
+
+-- and back
+applies-not : (n : ℕ) (cs : List Check) → NoneFails cs → applies n cs ≡ false
+applies-not n [] h = refl
+applies-not n (c ∷ cs) h = here (eqb (c .number) n) (applies-not n cs (h .1))
+  where
+    here : (b : Bool) → applies n cs ≡ false → anyFails (pick b (c ∷ those n cs) (those n cs)) ≡ false
+    here true i = rw (h .0) i
+    here false i = i
+
+pub all-pass : (ns : List ℕ) (cs : List Check) → NoneFails cs → Passed ns cs
+all-pass [] cs h = tt
+all-pass (n ∷ ns) cs h = (applies-not n cs h, all-pass ns cs h)
+
+-- ── accepted ──
+
+-- numbers that are no sign of acceptance
+abbrev pub nonzero : List ℕ → Bool
+nonzero [] = true
+nonzero (n ∷ ns) = both (opposite (eqb n 0)) (nonzero ns)
+
+zero-not : (n : ℕ) → opposite (eqb n 0) ≡ true → n ≡ 0 → ⊥
+zero-not n h e = true≢false (sym h ∙ ap (λ (k : ℕ). opposite (eqb k 0)) e)
+
+number-zero : (ns : List ℕ) (cs : List Check) → nonzero ns ≡ true → firstOf ns cs ≡ 0 → Passed ns cs
+number-zero [] cs k h = tt
+number-zero (n ∷ ns) cs k h =
+    let z = both-true (opposite (eqb n 0)) (nonzero ns) k in
+    here (applies n cs) refl (z .0) (number-zero ns cs (z .1)) h
+  where
+    here : (b : Bool) → applies n cs ≡ b → opposite (eqb n 0) ≡ true → (firstOf ns cs ≡ 0 → Passed ns cs)
+        → pick b n (firstOf ns cs) ≡ 0 → Passed (n ∷ ns) cs
+    here true e z later h = absurd (zero-not n z h)
+    here false e z later h = (e, later h)
+
+-- the strings of all checks, in the order of their numbers
+abbrev pub formedAll : List ℕ → List Str → List Check → List Str
+formedAll [] fs cs = fs
+formedAll (n ∷ ns) fs cs = formedAll ns (formedAt n cs ++ fs) cs
+
+pub judge-passed : (ns : List ℕ) (fs : List Str) (cs : List Check) → Passed ns cs
+    → judge ns fs cs ≡ passed (formedAll ns fs cs)
+judge-passed [] fs cs h = refl
+judge-passed (n ∷ ns) fs cs h = rw (h .0) (judge-passed ns (formedAt n cs ++ fs) cs (h .1))
+
+module _ (D : List ℕ → Dig) (s : Registers) (k : ℕ) (q : Request) (ns : List ℕ) (cs : List Check) where
+  abbrev answered : Told
+  answered = told D s k q (judge ns [] cs)
+
+  pub accepted-passed : nonzero ns ≡ true → answered .refusal ≡ 0 → Passed ns cs
+  accepted-passed z h = number-zero ns cs z (sym (number-is D s k q ns [] cs) ∙ h)
+
+  pub accepted-is : Passed ns cs → answered ≡ told D s k q (passed (formedAll ns [] cs))
+  accepted-is h = ap (told D s k q) (judge-passed ns [] cs h)
+
+-- ── strings formed ──
+
+in-forms : (x : Str) (c : Check) (cs : List Check) → List·Memᴰ c cs → List·Memᴰ x (c .forms) → List·Memᴰ x (formsAll cs)
+in-forms x c (d ∷ cs) (List·Memᴰ·head e) m =
+    Memᴰ·append-right (formsAll cs) (subst (λ (y : Check). List·Memᴰ x (y .forms)) e m)
+in-forms x c (d ∷ cs) (List·Memᴰ·tail i) m = Memᴰ·append-left (d .forms) (in-forms x c cs i m)
+
+kept : (x : Str) (ns : List ℕ) (fs : List Str) (cs : List Check) → List·Memᴰ x fs → List·Memᴰ x (formedAll ns fs cs)
+kept x [] fs cs m = m
+kept x (n ∷ ns) fs cs m = kept x ns (formedAt n cs ++ fs) cs (Memᴰ·append-right (formedAt n cs) m)
+
+at-number : (x : Str) (n : ℕ) (ns : List ℕ) (fs : List Str) (cs : List Check) → among n ns ≡ true
+    → List·Memᴰ x (formedAt n cs) → List·Memᴰ x (formedAll ns fs cs)
+at-number x n [] fs cs a m = absurd (true≢false (sym a))
+at-number x n (i ∷ ns) fs cs a m = here (eqb i n) refl a (λ k. at-number x n ns (formedAt i cs ++ fs) cs k m)
+  where
+    here : (b : Bool) → eqb i n ≡ b → either b (among n ns) ≡ true
+        → (among n ns ≡ true → List·Memᴰ x (formedAll (i ∷ ns) fs cs)) → List·Memᴰ x (formedAll (i ∷ ns) fs cs)
+    here true e a later =
+        kept x ns (formedAt i cs ++ fs) cs
+        (Memᴰ·append-left fs (subst (λ (j : ℕ). List·Memᴰ x (formedAt j cs)) (sym (eqb-true i n e)) m))
+    here false e a later = later a
+
+-- a check's strings are among them
+pub check-formed : (x : Str) (c : Check) (ns : List ℕ) (cs : List Check) → List·Memᴰ c cs → among (c .number) ns ≡ true
+    → List·Memᴰ x (c .forms) → List·Memᴰ x (formedAll ns [] cs)
+check-formed x c ns cs i a m = at-number x (c .number) ns [] cs a (in-forms x c (those (c .number) cs) (in-those c cs i) m)

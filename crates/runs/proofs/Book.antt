@@ -1,0 +1,70 @@
+-- The book of a run: each memorandum in it is the digest of a string that was formed, and what that string says is so.
+use mathlib.Core.Path.{_≡_, refl, sym, ap, subst, _∙_}
+use mathlib.Core.Bool.{Bool, true, false}
+use mathlib.Core.List.{List, [], _∷_, _++_}
+use mathlib.Core.Logic.{_⊎_, inl, inr}
+use Prim.Native.Nat.{ℕ}
+use Rattle.seqs.specs.Choose.{pick, either}
+use Rattle.seqs.specs.Bytes.{same, same-true}
+use Rattle.paper.specs.Strings.{Dig, Memo, Str, leaf, node, entry, memo, digest}
+use Rattle.rings.proofs.Nodes.{_∈_, Within, Fault, same-string}
+use Rattle.rings.proofs.Memos.{Means, means-more}
+use Rattle.runs.specs.Run.{Issue, standsFor, isIssued}
+
+-- what a string says where it is a memorandum's
+abbrev says-of : Str → Memo → Memo
+says-of (memo t k) u = t
+says-of (leaf A A′ ω) u = u
+says-of (node x y) u = u
+says-of (entry r) u = u
+
+module _ (D : List ℕ → Dig) where
+  pub record Backed (F : List Str) (i : Issue) : Type 0 where
+    pub says : Memo
+    pub key : Dig
+    pub formed : memo says key ∈ F
+    pub memorandum-is : digest D (memo says key) ≡ i .memorandum
+    pub means : Means (digest D) F says (i .does)
+
+  abbrev pub Book : List Str → List Issue → Type 0
+  Book F [] = Unit {0}
+  Book F (i ∷ b) = Backed F i × Book F b
+
+  pub book-more : {F G : List Str} (b : List Issue) → Within F G → Book F b → Book G b
+  book-more [] s h = tt
+  book-more {F} {G} (i ∷ b) s h = (backed (h .0), book-more b s (h .1))
+    where
+      backed : Backed F i → Backed G i
+      backed e =
+          record {
+            says = e .says;
+            key = e .key;
+            formed = s (memo (e .says) (e .key)) (e .formed);
+            memorandum-is = e .memorandum-is;
+            means = means-more (digest D) (e .says) (i .does) s (e .means);
+          }
+
+  pub book-add : {F : List Str} (b : List Issue) (i : Issue) → Book F b → Backed F i → Book F (b ++ (i ∷ []))
+  book-add [] i h e = (e, tt)
+  book-add (j ∷ b) i h e = (h .0, book-add b i (h .1) e)
+
+  -- A memorandum with a formed string: what the string says is so and stands for what the book has, or the book does not
+  -- have it, or a fault can be shown.
+  pub look : {F : List Str} (m : Dig) (t : Memo) (k : Dig) (b : List Issue) → Book F b → memo t k ∈ F → digest D (memo t k) ≡ m
+      → (Fault (digest D) F ⊎ (isIssued m b ≡ false)) ⊎ Means (digest D) F t (standsFor m b)
+  look m t k [] h i e = inl (inr refl)
+  look {F} m t k (j ∷ b) h i e = here (same (j .memorandum) m) refl (look m t k b (h .1) i e)
+    where
+      hit : j .memorandum ≡ m → (Fault (digest D) F ⊎ (true ≡ false)) ⊎ Means (digest D) F t (j .does)
+      hit p = found (same-string (digest D) (h .0 .formed) i (h .0 .memorandum-is ∙ p ∙ sym e))
+        where
+          found : Fault (digest D) F ⊎ (memo (h .0 .says) (h .0 .key) ≡ memo t k)
+              → (Fault (digest D) F ⊎ (true ≡ false)) ⊎ Means (digest D) F t (j .does)
+          found (inl f) = inl (inl f)
+          found (inr q) = inr (subst (λ (u : Memo). Means (digest D) F u (j .does)) (ap (λ (s : Str). says-of s t) q) (h .0 .means))
+
+      here : (c : Bool) → same (j .memorandum) m ≡ c
+          → (Fault (digest D) F ⊎ (isIssued m b ≡ false)) ⊎ Means (digest D) F t (standsFor m b)
+          → (Fault (digest D) F ⊎ (either c (isIssued m b) ≡ false)) ⊎ Means (digest D) F t (pick c (j .does) (standsFor m b))
+      here true p r = hit (same-true (j .memorandum) m p)
+      here false p r = r

@@ -1,0 +1,164 @@
+-- A request read from a sound frame has digests of 32 bytes and numbers below 2 ^ 64.
+use mathlib.Core.Path.{_≡_, sym, subst}
+use mathlib.Core.Bool.{true}
+use mathlib.Core.List.{List, [], _∷_}
+use Prim.Native.Nat.{ℕ, zero, suc, _+_, _-_, _*_, _^_, _≤_, _<_}
+use native.Mathlib.Omega.{arith}
+use borrow.Author.Tests.{eqb-true, leb-true}
+use lib.Dec.{leb}
+use lib.ListN.{length, getD, take, drop, length-drop}
+use lib.Seq.{length-take-le, getD-take}
+use Rattle.seqs.specs.Choose.{both-true}
+use Rattle.seqs.specs.Bytes.{Bytes, numberOf, number8, numberAt, number-at}
+use Rattle.paper.specs.declared.Record.{Record}
+use Rattle.paper.specs.Strings.{Dig}
+use Rattle.rings.proofs.Paths.{AllWide}
+use Rattle.paper.specs.Requests as Q
+use Rattle.paper.specs.Requests.{Request, Carried, aNumber, aDigest, aRecord, aPath, countIn, digestsIn, siblingsIn, recordIn, Kind, kinds, kindOf, known, rowOf, takes, takesAll, part, sound, fits, requestOf}
+
+-- ── widths ──
+
+abbrev pub Is32 : Dig → Type 0
+Is32 d = length d ≡ 32
+
+abbrev pub Small : ℕ → Type 0
+Small n = n < 2 ^ 64
+
+abbrev pub SmallRecord : Record → Type 0
+SmallRecord r = Small (r .revision .0) × Small (r .mass .0) × Small (r .offset .0) × Small (r .rigging .0)
+
+abbrev pub Wide : Request → Type 0
+Wide (Q.path x x′ sides l) = Is32 x × Is32 x′ × AllWide l
+Wide (Q.witness x y m) = Is32 x × Is32 y
+Wide (Q.join x y x′ y′ m1 z z′ m2) = Is32 x × Is32 y × Is32 x′ × Is32 y′ × Is32 z × Is32 z′
+Wide (Q.pair x1 y x1′ y′ m1 x2 z x2′ z′ m2) =
+    Is32 x1 × Is32 y × Is32 x1′ × Is32 y′ × Is32 x2 × Is32 z × Is32 x2′ × Is32 z′
+Wide (Q.raise x1 x2 y x1′ x2′ y′ m1 z z′ m2) =
+    Is32 x1 × Is32 x2 × Is32 y × Is32 x1′ × Is32 x2′ × Is32 y′ × Is32 z × Is32 z′
+Wide (Q.swap x1 x2 y y′ m) = Is32 x1 × Is32 x2 × Is32 y × Is32 y′
+Wide (Q.first A) = Small A
+Wide (Q.place A A′ B′ ω y y′ m) = Small A × Small A′ × Small B′ × Is32 ω × Is32 y × Is32 y′
+Wide (Q.turn x y m) = Is32 x × Is32 y
+Wide (Q.chain x y m1 z m2) = Is32 x × Is32 y × Is32 z
+Wide (Q.adopt y y′ m) = Is32 y × Is32 y′
+Wide (Q.setTo A A′ old v2 v3 v4 y y′ m) =
+    Small A × Small A′ × SmallRecord old × Small v2 × Small v3 × Small v4 × Is32 y × Is32 y′
+Wide (Q.clear A A′ old y y′ m) = Small A × Small A′ × SmallRecord old × Is32 y × Is32 y′
+Wide (Q.ask q A A′ r y m) = Small q × Small A × Small A′ × SmallRecord r × Is32 y
+Wide (Q.askNone q) = Small q
+Wide (Q.unlock k) = Is32 k
+
+-- ── numbers of bytes ──
+
+bytes-take : (n : ℕ) (l : List ℕ) → Bytes l → Bytes (take n l)
+bytes-take zero l h = tt
+bytes-take (suc n) [] h = tt
+bytes-take (suc n) (b ∷ l) h = (h .0, bytes-take n l (h .1))
+
+bytes-drop : (n : ℕ) (l : List ℕ) → Bytes l → Bytes (drop n l)
+bytes-drop zero l h = h
+bytes-drop (suc n) [] h = tt
+bytes-drop (suc n) (b ∷ l) h = bytes-drop n l (h .1)
+
+byte-at : (l : List ℕ) (i : ℕ) → Bytes l → getD l i 0 < 256
+byte-at [] i h = omega arith
+byte-at (b ∷ l) zero h = h .0
+byte-at (b ∷ l) (suc i) h = byte-at l i (h .1)
+
+eight : (a b c d e f g h : ℕ) → a < 256 → b < 256 → c < 256 → d < 256 → e < 256 → f < 256 → g < 256 → h < 256
+    → number8 a b c d e f g h < 2 ^ 64
+eight a b c d e f g h ha hb hc hd he hf hg hh = omega arith
+
+number-small : (l : List ℕ) → Bytes l → 8 ≤ length l → Small (numberOf (take 8 l))
+unfolding numberAt
+number-small l h n =
+    subst Small (sym (number-at l 0 n))
+    (eight _ _ _ _ _ _ _ _ (byte-at l 0 h) (byte-at l 1 h) (byte-at l 2 h) (byte-at l 3 h) (byte-at l 4 h) (byte-at l 5 h) (byte-at l 6 h) (byte-at l 7 h))
+
+-- ── what a row of the table carries ──
+
+digests-wide : (n : ℕ) (l : List ℕ) → 32 * n ≤ length l → AllWide (digestsIn n l)
+digests-wide zero l h = tt
+digests-wide (suc n) l h =
+    (length-take-le 32 l (omega arith), digests-wide n (drop 32 l) (omega (arith, length-drop 32 l)))
+
+-- a carried thing's bytes: a small number, a digest, a record of small numbers, siblings of 32 bytes
+abbrev Sized : Carried → List ℕ → Type 0
+Sized aNumber b = Small (numberOf b)
+Sized aDigest b = Is32 b
+Sized aRecord b = SmallRecord (recordIn b)
+Sized aPath b = AllWide (siblingsIn b)
+
+sized : (c : Carried) (l : List ℕ) → Bytes l → takes c l ≤ length l → Sized c (take (takes c l) l)
+sized aNumber l h n = number-small l h n
+sized aDigest l h n = length-take-le 32 l n
+sized aRecord l h n =
+    let b : List ℕ = take 32 l in
+    let hb = bytes-take 32 l h in
+    let nb : length b ≡ 32 = length-take-le 32 l n in
+    let at : (i : ℕ) → i + 8 ≤ 32 → Small (numberOf (take 8 (drop i b))) =
+    λ i j. number-small (drop i b) (bytes-drop i b hb) (omega (arith, length-drop i b)) in
+    (number-small b hb (omega arith), at 8 (omega arith), at 16 (omega arith), at 24 (omega arith))
+sized aPath l h n =
+    let w : ℕ = 9 + 32 * countIn l in
+    let e : countIn (take w l) ≡ countIn l = getD-take w l 0 0 (omega arith) in
+    rw e (digests-wide (countIn l) (drop 9 (take w l)) (omega (arith, length-drop 9 (take w l), length-take-le w l n)))
+
+-- all that a row carries, part by part
+abbrev SizedAll : List Carried → (ℕ → List ℕ) → Type 0
+SizedAll [] p = Unit {0}
+SizedAll (c ∷ cs) p = Sized c (p 0) × SizedAll cs (λ i. p (suc i))
+
+sized-all : (cs : List Carried) (l : List ℕ) → Bytes l → takesAll cs l ≤ length l → SizedAll cs (part cs l)
+sized-all [] l h n = tt
+sized-all (c ∷ cs) l h n = (
+  sized c l h (omega arith),
+  sized-all cs (drop (takes c l) l) (bytes-drop (takes c l) l h) (omega (arith, length-drop (takes c l) l)),
+)
+
+-- ── every row of the table ──
+
+abbrev WideRow : Kind → Type 0
+WideRow k = (p : ℕ → List ℕ) → SizedAll (k .carries) p → Wide (k .reads p)
+
+abbrev WideRows : List Kind → Type 0
+WideRows [] = Unit {0}
+WideRows (k ∷ ks) = WideRow k × WideRows ks
+
+wide-row : (ks : List Kind) (i : ℕ) (d : Kind) → i < length ks → WideRows ks → WideRow (getD ks i d)
+wide-row [] i d n h = absurd (omega arith)
+wide-row (k ∷ ks) zero d n h = h .0
+wide-row (k ∷ ks) (suc i) d n h = wide-row ks i d (omega arith) (h .1)
+
+rows-0d : WideRows (drop 12 kinds)
+unfolding kinds
+rows-0d =
+    (λ p h. (h .0, h .1 .0, h .1 .1 .0, h .1 .1 .1 .0, h .1 .1 .1 .1 .0), (λ p h. (h .0, h .1 .0, h .1 .1 .0, h .1 .1 .1 .0, h .1 .1 .1 .1 .0), (λ p h. h .0, (λ p h. h .0, tt))))
+
+rows-09 : WideRows (drop 8 kinds)
+unfolding kinds
+rows-09 =
+    (λ p h. (h .0, h .1 .0), (λ p h. (h .0, h .1 .0, h .1 .1 .1 .0), (λ p h. (h .0, h .1 .0), (λ p h. (h .0, h .1 .0, h .1 .1 .0, h .1 .1 .1 .0, h .1 .1 .1 .1 .0, h .1 .1 .1 .1 .1 .0, h .1 .1 .1 .1 .1 .1 .0, h .1 .1 .1 .1 .1 .1 .1 .0), rows-0d))))
+
+rows-05 : WideRows (drop 4 kinds)
+unfolding kinds
+rows-05 =
+    (λ p h. (h .0, h .1 .0, h .1 .1 .0, h .1 .1 .1 .0, h .1 .1 .1 .1 .0, h .1 .1 .1 .1 .1 .0, h .1 .1 .1 .1 .1 .1 .1 .0, h .1 .1 .1 .1 .1 .1 .1 .1 .0), (λ p h. (h .0, h .1 .0, h .1 .1 .0, h .1 .1 .1 .0), (λ p h. h .0, (λ p h. (h .0, h .1 .0, h .1 .1 .0, h .1 .1 .1 .0, h .1 .1 .1 .1 .0, h .1 .1 .1 .1 .1 .0), rows-09))))
+
+rows-01 : WideRows kinds
+unfolding kinds
+rows-01 =
+    (λ p h. (h .0, h .1 .0, h .1 .1 .0), (λ p h. (h .0, h .1 .0), (λ p h. (h .0, h .1 .0, h .1 .1 .0, h .1 .1 .1 .0, h .1 .1 .1 .1 .1 .0, h .1 .1 .1 .1 .1 .1 .0), (λ p h. (h .0, h .1 .0, h .1 .1 .0, h .1 .1 .1 .0, h .1 .1 .1 .1 .1 .0, h .1 .1 .1 .1 .1 .1 .0, h .1 .1 .1 .1 .1 .1 .1 .0, h .1 .1 .1 .1 .1 .1 .1 .1 .0), rows-05))))
+
+-- ── a sound frame ──
+
+pub wide : (f : List ℕ) → Bytes f → known (kindOf f) ≡ true → fits f ≡ true → Wide (requestOf f)
+unfolding known fits requestOf
+wide f h k n =
+    let row : Kind = rowOf (kindOf f) in
+    let known-by = both-true (leb 1 (kindOf f)) (leb (kindOf f) (length kinds)) k in
+    let lo = leb-true 1 (kindOf f) (known-by .0) in
+    let hi = leb-true (kindOf f) (length kinds) (known-by .1) in
+    let long = eqb-true (length f) (1 + takesAll (row .carries) (drop 1 f)) (both-true _ _ n .0) in
+    wide-row kinds (kindOf f - 1) _ (omega arith) rows-01 _
+    (sized-all (row .carries) (drop 1 f) (bytes-drop 1 f h) (omega (arith, length-drop 1 f)))

@@ -1,0 +1,3 @@
+pub mod Run
+pub mod Endings
+pub mod Safety

@@ -1,0 +1,121 @@
+-- A run of lines, and what document 01, "Replay", makes of it. All of it for any digest D.
+use mathlib.Core.Bool.{Bool, false}
+use mathlib.Core.List.{List, [], _∷_, _++_}
+use Prim.Native.Nat.{ℕ, _+_}
+use Rattle.seqs.specs.Choose.{pick, either}
+use Rattle.seqs.specs.Bytes.{same}
+use Rattle.paper.specs.declared.Record.{Record}
+use Rattle.paper.specs.declared.Registers.{Registers}
+use Rattle.paper.specs.Strings.{Dig, nought, Str, memo, digest}
+use Rattle.paper.specs.Answers as Does
+use Rattle.paper.specs.Answers.{Change, Effect, none′, issues, adopts, changes}
+use Rattle.paper.specs.Module.{Told, answerTo}
+use Rattle.rings.specs.Lists.{Item, putRecord}
+use Rattle.rings.specs.Changes.{Step, insertion, removal, doSteps, reversed}
+
+-- a line as bytes, without its 0A, and the bytes of its reply space
+pub record Turn : Type 0 where
+  pub line : List ℕ
+  pub space : ℕ
+
+-- "Start from an unopened module": root and counter zero, not open; the secret's register may hold anything
+abbrev pub unopened : (secret : Dig) → Registers
+unopened k = record { root = nought; counter = record { 0 = 0 }; secret = k; opened = false }
+
+-- ── replay ──
+
+-- the list that the root stands for
+abbrev pub Items : Type 0
+Items = List (Item Record)
+
+-- a memorandum issued, and what the line that issued it does
+pub record Issue : Type 0 where
+  pub memorandum : Dig
+  pub does : List Step
+
+-- A memorandum is read by the earliest line that issued it; of honest lines, by the last. A book is searched from its
+-- front, so that is where the reading's own line has to stand.
+pub data Reading : Type 0 where
+  earliest : Reading
+  last : Reading
+
+abbrev pub entered : Reading → (book new : List Issue) → List Issue
+entered earliest b i = b ++ i
+entered last b i = i ++ b
+
+-- what the first entry of a book for a memorandum does; nothing where there is none
+abbrev pub standsFor : (m : Dig) → List Issue → List Step
+standsFor m [] = []
+standsFor m (i ∷ b) = pick (same (i .memorandum) m) (i .does) (standsFor m b)
+
+abbrev pub isIssued : (m : Dig) → List Issue → Bool
+isIssued m [] = false
+isIssued m (i ∷ b) = either (same (i .memorandum) m) (isIssued m b)
+
+-- what a line does that issues a memorandum, the others being read in the book b
+abbrev pub meaning : List Issue → Change → List Step
+meaning b Does.nothing = []
+meaning b (Does.adds A) = insertion A ∷ []
+meaning b (Does.removes A) = removal A ∷ []
+meaning b (Does.reverses m) = reversed (standsFor m b)
+meaning b (Does.both m1 m2) = standsFor m1 b ++ standsFor m2 b
+
+-- ── what a run comes to ──
+
+-- the registers, all strings formed, the memoranda issued, the list got by replaying, and how many record changes were
+-- accepted
+pub record World : Type 0 where
+  pub registers : Registers
+  pub formed : List Str
+  pub book : List Issue
+  pub items : Items
+  pub changed : ℕ
+
+module _ (D : List ℕ → Dig) where
+  -- "a line issues the memorandum its reply lists"
+  abbrev pub issuedBy : World → Effect → List Issue
+  issuedBy w none′ = []
+  issuedBy w (issues t c) =
+      record { memorandum = digest D (memo t (w .registers .secret)); does = meaning (w .book) c } ∷ []
+  issuedBy w (adopts m) = []
+  issuedBy w (changes A r) = []
+
+  -- "a memorandum stands for what the earliest line that issued it does, and adopt does that"; "set and clear change
+  -- one record"
+  abbrev pub replayed : World → Effect → Items
+  replayed w none′ = w .items
+  replayed w (issues t c) = w .items
+  replayed w (adopts m) = doSteps (standsFor m (w .book)) (w .items)
+  replayed w (changes A r) = putRecord A r (w .items)
+
+  abbrev pub counted : World → Effect → ℕ
+  counted w none′ = w .changed
+  counted w (issues t c) = w .changed
+  counted w (adopts m) = w .changed
+  counted w (changes A r) = w .changed + 1
+
+  -- the answer to a line, and the world after it
+  abbrev pub toldAt : World → Turn → Told
+  toldAt w t = answerTo D (w .registers) (t .line) (t .space)
+
+  module _ (by : Reading) where
+    abbrev pub landed : World → Told → World
+    landed w a =
+        record {
+          registers = a .after;
+          formed = a .formed ++ w .formed;
+          book = entered by (w .book) (issuedBy w (a .effect));
+          items = replayed w (a .effect);
+          changed = counted w (a .effect);
+        }
+
+    abbrev pub next : World → Turn → World
+    next w t = landed w (toldAt w t)
+
+  abbrev pub start : (secret : Dig) → World
+  start k = record { registers = unopened k; formed = []; book = []; items = []; changed = 0 }
+
+  -- the world after some turns, the latest first
+  abbrev pub after : (secret : Dig) → List Turn → World
+  after k [] = start k
+  after k (t ∷ ts) = next earliest (after k ts) t

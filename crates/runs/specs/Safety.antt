@@ -1,0 +1,98 @@
+-- Demand 3, first half: what holds after each line of any run until it has ended.
+use mathlib.Core.Path.{_≡_}
+use mathlib.Core.Bool.{true, false}
+use mathlib.Core.List.{List, [], _∷_, List·Memᴰ}
+use mathlib.Core.Logic.{_⊎_}
+use Prim.Native.Nat.{ℕ}
+use lib.ListN.{length}
+use Rattle.sha256.specs.Hash.{sha256}
+use Rattle.hex.specs.Hex.{bytesOf}
+use Rattle.paper.specs.declared.Record.{Record}
+use Rattle.paper.specs.declared.Finding.{Finding}
+use Rattle.paper.specs.declared.Finding.the-variants.{Recorded, Listed as Empty, Gap}
+use Rattle.paper.specs.Strings.{Dig, blank, inGap, recordHash}
+use Rattle.paper.specs.Requests.{Request, path, witness, join, pair, raise, swap, first, place, turn, chain, adopt, setTo, clear, ask, askNone, unlock, requestOf}
+use Rattle.paper.specs.Refusals.{clearedRecord}
+use Rattle.paper.specs.Answers.{Effect, none′, issues, adopts, changes, findingOf}
+use Rattle.rings.specs.Trees.{Tree, points, leaves, hashOf, Permuted}
+use Rattle.rings.specs.Lists.{Ascending, Listed, Unlisted, ring}
+use Rattle.rings.specs.Changes.{LegalSteps}
+use Rattle.runs.specs.Run.{Turn, unopened, Items, standsFor, World, toldAt, after}
+use Rattle.runs.specs.Endings.{Ending}
+
+module _ (D : List ℕ → Dig) where
+  -- "the root is that of a tree whose leaves form one ascending ring of distinct item numbers and hold exactly the list
+  -- got by replaying"; "the counter is the number of accepted record changes"
+  pub record Stands (w : World) : Type 0 where
+    pub tree : Tree
+    pub root : hashOf D tree ≡ w .registers .root
+    pub ascending : Ascending 0 (w .items)
+    pub holds : Permuted (leaves tree) (ring (recordHash D) (w .items))
+    pub counter : w .registers .counter .0 ≡ w .changed
+
+  -- A and A' are neighbours: the ring has a leaf from A to A'
+  abbrev pub Neighbours : (A A′ : ℕ) → Items → Type 0
+  Neighbours A A′ l = (r : Record) × Listed A r l × List·Memᴰ (points A A′ (recordHash D r)) (ring (recordHash D) l)
+
+  -- "every accepted answer on a record, an empty item or a gap is true of that list"
+  abbrev pub TrueFinding : (q : ℕ) → Finding → Items → Type 0
+  TrueFinding q (Recorded A r) l = (q ≡ A .0) × (blank r ≡ false) × Listed (A .0) r l
+  TrueFinding q (Empty A) l = (q ≡ A .0) × Listed (A .0) clearedRecord l
+  TrueFinding q (Gap A A′) l = (inGap q (A .0) (A′ .0) ≡ true) × Unlisted q l × Neighbours (A .0) (A′ .0) l
+
+  abbrev pub TrueAnswer : Request → Items → Type 0
+  TrueAnswer (path x x′ sides s) l = Unit {0}
+  TrueAnswer (witness x y m) l = Unit {0}
+  TrueAnswer (join x y x′ y′ m1 z z′ m2) l = Unit {0}
+  TrueAnswer (pair x1 y x1′ y′ m1 x2 z x2′ z′ m2) l = Unit {0}
+  TrueAnswer (raise x1 x2 y x1′ x2′ y′ m1 z z′ m2) l = Unit {0}
+  TrueAnswer (swap x1 x2 y y′ m) l = Unit {0}
+  TrueAnswer (first A) l = Unit {0}
+  TrueAnswer (place A A′ B′ ω y y′ m) l = Unit {0}
+  TrueAnswer (turn x y m) l = Unit {0}
+  TrueAnswer (chain x y m1 z m2) l = Unit {0}
+  TrueAnswer (adopt y y′ m) l = Unit {0}
+  TrueAnswer (setTo A A′ old v2 v3 v4 y y′ m) l = Unit {0}
+  TrueAnswer (clear A A′ old y y′ m) l = Unit {0}
+  TrueAnswer (ask q A A′ r y m) l = TrueFinding q (findingOf q A A′ r) l
+  TrueAnswer (askNone q) l = l ≡ []
+  TrueAnswer (unlock k) l = Unit {0}
+
+  -- each adopted change was legal where it was adopted, and a record changes only at a listed item
+  abbrev pub LegalEffect : World → Effect → Type 0
+  LegalEffect w none′ = Unit {0}
+  LegalEffect w (issues t c) = Unit {0}
+  LegalEffect w (adopts m) = LegalSteps (standsFor m (w .book)) (w .items)
+  LegalEffect w (changes A r) = (s : Record) × Listed A s (w .items)
+
+  -- one line at its world
+  pub record Fair (w : World) (t : Turn) : Type 0 where
+    pub true-answer : toldAt D w t .refusal ≡ 0 → TrueAnswer (requestOf (bytesOf (t .line))) (w .items)
+    pub legal : LegalEffect w (toldAt D w t .effect)
+
+  -- every line so far
+  abbrev pub AllFair : (secret : Dig) → List Turn → Type 0
+  AllFair k [] = Unit {0}
+  AllFair k (t ∷ ts) = Fair (after D k ts) t × AllFair k ts
+
+  -- before opening nothing is formed, issued or changed
+  pub record Untouched (secret : Dig) (w : World) : Type 0 where
+    pub registers : w .registers ≡ unopened secret
+    pub formed : w .formed ≡ []
+    pub issued : w .book ≡ []
+    pub listed : w .items ≡ []
+    pub changed : w .changed ≡ 0
+
+  pub record Safe (secret : Dig) (ts : List Turn) : Type 0 where
+    pub stands : Stands (after D secret ts)
+    pub fair : AllFair secret ts
+    pub closed : after D secret ts .registers .opened ≡ false → Untouched secret (after D secret ts)
+
+  -- after any lines, however damaged
+  abbrev pub SafeOrEnded : Type 0
+  SafeOrEnded = (secret : Dig) (ts : List Turn) → Ending D secret ts ⊎ Safe secret ts
+
+-- for SHA-256, and for any digest of 32 bytes
+pub record Safety : Type 0 where
+  pub at-sha256 : SafeOrEnded sha256
+  pub at-any : (D : List ℕ → Dig) → ((l : List ℕ) → length (D l) ≡ 32) → SafeOrEnded D

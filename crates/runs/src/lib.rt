@@ -1,0 +1,1 @@
+// The run theorem: what holds after any lines. No code: see specs/.
