@@ -6,7 +6,7 @@ use mathlib.Core.List.{List, [], _∷_, _++_, append-assoc, append-nil}
 use Prim.Native.Nat.{ℕ, _+_, _≤_}
 use native.Mathlib.Omega.{arith}
 use lib.Dec.{eqb}
-use lib.ListN.{length, drop, length-append}
+use lib.ListN.{length, length-append}
 use Rattle.seqs.specs.Choose.{pick, either}
 use Rattle.seqs.specs.Bytes.{same, allZero, be64, be64-length}
 use Rattle.sha256.specs.Hash.{sha256}
@@ -17,64 +17,58 @@ use Rattle.paper.specs.declared.Finding.{Finding}
 use Rattle.paper.specs.declared.Finding.the-variants.{Recorded, Listed, Gap}
 use Rattle.paper.specs.Strings.{Dig, nought, Memo, u1, v1, ei, Str, leaf, entry, memo, numbers, nums, spread, lengthOf, cost, blank, malformed, recordForms, inGap, digest, recordHash}
 use Rattle.paper.specs.Requests as Q
-use Rattle.paper.specs.Refusals.{order, top, nextRecord, clearedRecord, leafOf, leafForms, changeForms, changeSays, needs, Verdict, refused, passed, judge}
+use Rattle.paper.specs.Refusals.{top, nextRecord, clearedRecord, leafOf, leafForms, changeForms, changeSays, refused, passed}
 use Rattle.paper.specs.Answers.{findingBytes}
 use Rattle.digests.specs.declared.Digest.{Digest}
 use Rattle.digests.specs.Worked.{worked, hashed}
 use Rattle.replies.proofs.Laws.{cost-append, cost-nil}
-
-abbrev pub verdict : Registers → Q.Request → Verdict
-verdict s q = judge (drop 4 order) [] (needs sha256 s q)
-
--- whether the digest of a memorandum is the one shown
-abbrev pub shows : Registers → Memo → Dig → Bool
-shows s t m = same (digest sha256 (memo t (s .secret))) m
+use Rattle.replies.proofs.Memos.{shows, verdictOf}
 
 -- ── 10 open ──
 
 module _ (s : Registers) (k : Dig) where
-  pub unlock-14 : s .opened ≡ true → verdict s (Q.unlock k) ≡ refused 14 []
+  pub unlock-14 : s .opened ≡ true → verdictOf s (Q.unlock k) ≡ refused 14 []
   unlock-14 o = rw o
 
   module _ (o : s .opened ≡ false) where
-    pub unlock-12 : allZero k ≡ true → verdict s (Q.unlock k) ≡ refused 12 []
+    pub unlock-12 : allZero k ≡ true → verdictOf s (Q.unlock k) ≡ refused 12 []
     unlock-12 z = rw (o, z)
 
-    pub unlock-passed : allZero k ≡ false → verdict s (Q.unlock k) ≡ passed []
+    pub unlock-passed : allZero k ≡ false → verdictOf s (Q.unlock k) ≡ passed []
     unlock-passed z = rw (o, z)
 
 -- ── 0f ask of none ──
 
 module _ (s : Registers) (q : ℕ) where
-  pub none-13 : s .opened ≡ false → verdict s (Q.askNone q) ≡ refused 13 []
+  pub none-13 : s .opened ≡ false → verdictOf s (Q.askNone q) ≡ refused 13 []
   none-13 o = rw o
 
   module _ (o : s .opened ≡ true) where
-    pub none-4 : eqb q 0 ≡ true → verdict s (Q.askNone q) ≡ refused 4 []
+    pub none-4 : eqb q 0 ≡ true → verdictOf s (Q.askNone q) ≡ refused 4 []
     none-4 z = rw (o, z)
 
     module _ (z : eqb q 0 ≡ false) where
-      pub none-10 : same nought (s .root) ≡ false → verdict s (Q.askNone q) ≡ refused 10 []
+      pub none-10 : same nought (s .root) ≡ false → verdictOf s (Q.askNone q) ≡ refused 10 []
       none-10 e = rw (o, z, e)
 
-      pub none-passed : same nought (s .root) ≡ true → verdict s (Q.askNone q) ≡ passed []
+      pub none-passed : same nought (s .root) ≡ true → verdictOf s (Q.askNone q) ≡ passed []
       none-passed e = rw (o, z, e)
 
 -- ── 0b adopt ──
 
 module _ (s : Registers) (y y′ m : Dig) where
-  pub adopt-13 : s .opened ≡ false → verdict s (Q.adopt y y′ m) ≡ refused 13 []
+  pub adopt-13 : s .opened ≡ false → verdictOf s (Q.adopt y y′ m) ≡ refused 13 []
   adopt-13 o = rw o
 
   module _ (o : s .opened ≡ true) where
-    pub adopt-8 : shows s (ei y y′) m ≡ false → verdict s (Q.adopt y y′ m) ≡ refused 8 (memo (ei y y′) (s .secret) ∷ [])
+    pub adopt-8 : shows s (ei y y′) m ≡ false → verdictOf s (Q.adopt y y′ m) ≡ refused 8 (memo (ei y y′) (s .secret) ∷ [])
     adopt-8 h = rw (o, h)
 
     module _ (h : shows s (ei y y′) m ≡ true) where
-      pub adopt-10 : same y (s .root) ≡ false → verdict s (Q.adopt y y′ m) ≡ refused 10 (memo (ei y y′) (s .secret) ∷ [])
+      pub adopt-10 : same y (s .root) ≡ false → verdictOf s (Q.adopt y y′ m) ≡ refused 10 (memo (ei y y′) (s .secret) ∷ [])
       adopt-10 e = rw (o, h, e)
 
-      pub adopt-passed : same y (s .root) ≡ true → verdict s (Q.adopt y y′ m) ≡ passed (memo (ei y y′) (s .secret) ∷ [])
+      pub adopt-passed : same y (s .root) ≡ true → verdictOf s (Q.adopt y y′ m) ≡ passed (memo (ei y y′) (s .secret) ∷ [])
       adopt-passed e = rw (o, h, e)
 
 -- ── the memorandum of a changed record ──
@@ -150,31 +144,31 @@ module _ (s : Registers) (A A′ : ℕ) (old : Record) (v2 v3 v4 : ℕ) (y y′ 
   abbrev pub setStrs : List Str
   setStrs = changeStrs (s .secret) A A′ old (nextRecord s v2 v3 v4) y y′
 
-  pub set-13 : s .opened ≡ false → verdict s set ≡ refused 13 []
+  pub set-13 : s .opened ≡ false → verdictOf s set ≡ refused 13 []
   set-13 o = rw o
 
-  pub set-4 : s .opened ≡ true → eqb A 0 ≡ true → verdict s set ≡ refused 4 []
+  pub set-4 : s .opened ≡ true → eqb A 0 ≡ true → verdictOf s set ≡ refused 4 []
   set-4 o a = rw (o, a)
 
-  pub set-4-next : s .opened ≡ true → eqb A 0 ≡ false → eqb A′ 0 ≡ true → verdict s set ≡ refused 4 []
+  pub set-4-next : s .opened ≡ true → eqb A 0 ≡ false → eqb A′ 0 ≡ true → verdictOf s set ≡ refused 4 []
   set-4-next o a b = rw (o, a, b)
 
-  pub set-5 : s .opened ≡ true → eqb A 0 ≡ false → eqb A′ 0 ≡ false → malformed old ≡ true → verdict s set ≡ refused 5 []
+  pub set-5 : s .opened ≡ true → eqb A 0 ≡ false → eqb A′ 0 ≡ false → malformed old ≡ true → verdictOf s set ≡ refused 5 []
   set-5 o a b f = rw (o, a, b, f)
 
   pub set-7 : s .opened ≡ true → eqb A 0 ≡ false → eqb A′ 0 ≡ false → malformed old ≡ false → eqb (s .counter .0) top ≡ true
-      → verdict s set ≡ refused 7 []
+      → verdictOf s set ≡ refused 7 []
   set-7 o a b f t = rw (o, a, b, f, t)
 
   module _ (p : SetPassed s A A′ old) where
-    pub set-8 : shows s setSays m ≡ false → verdict s set ≡ refused 8 (setStrs ++ [])
+    pub set-8 : shows s setSays m ≡ false → verdictOf s set ≡ refused 8 (setStrs ++ [])
     set-8 h = rw (p .opened, p .item, p .next, p .formed, p .room, h)
 
     module _ (h : shows s setSays m ≡ true) where
-      pub set-10 : same y (s .root) ≡ false → verdict s set ≡ refused 10 (setStrs ++ [])
+      pub set-10 : same y (s .root) ≡ false → verdictOf s set ≡ refused 10 (setStrs ++ [])
       set-10 e = rw (p .opened, p .item, p .next, p .formed, p .room, h, e)
 
-      pub set-passed : same y (s .root) ≡ true → verdict s set ≡ passed (setStrs ++ [])
+      pub set-passed : same y (s .root) ≡ true → verdictOf s set ≡ passed (setStrs ++ [])
       set-passed e = rw (p .opened, p .item, p .next, p .formed, p .room, h, e)
 
 -- ── 0d clear ──
@@ -198,35 +192,35 @@ module _ (s : Registers) (A A′ : ℕ) (old : Record) (y y′ m : Dig) where
   abbrev pub clearStrs : List Str
   clearStrs = changeStrs (s .secret) A A′ old clearedRecord y y′
 
-  pub clear-13 : s .opened ≡ false → verdict s clear ≡ refused 13 []
+  pub clear-13 : s .opened ≡ false → verdictOf s clear ≡ refused 13 []
   clear-13 o = rw o
 
-  pub clear-4 : s .opened ≡ true → eqb A 0 ≡ true → verdict s clear ≡ refused 4 []
+  pub clear-4 : s .opened ≡ true → eqb A 0 ≡ true → verdictOf s clear ≡ refused 4 []
   clear-4 o a = rw (o, a)
 
-  pub clear-4-next : s .opened ≡ true → eqb A 0 ≡ false → eqb A′ 0 ≡ true → verdict s clear ≡ refused 4 []
+  pub clear-4-next : s .opened ≡ true → eqb A 0 ≡ false → eqb A′ 0 ≡ true → verdictOf s clear ≡ refused 4 []
   clear-4-next o a b = rw (o, a, b)
 
-  pub clear-5 : s .opened ≡ true → eqb A 0 ≡ false → eqb A′ 0 ≡ false → malformed old ≡ true → verdict s clear ≡ refused 5 []
+  pub clear-5 : s .opened ≡ true → eqb A 0 ≡ false → eqb A′ 0 ≡ false → malformed old ≡ true → verdictOf s clear ≡ refused 5 []
   clear-5 o a b f = rw (o, a, b, f)
 
   pub clear-11 : s .opened ≡ true → eqb A 0 ≡ false → eqb A′ 0 ≡ false → malformed old ≡ false → blank old ≡ true
-      → verdict s clear ≡ refused 11 []
+      → verdictOf s clear ≡ refused 11 []
   clear-11 o a b f e = rw (o, a, b, f, e)
 
   pub clear-7 : s .opened ≡ true → eqb A 0 ≡ false → eqb A′ 0 ≡ false → malformed old ≡ false → blank old ≡ false
-      → eqb (s .counter .0) top ≡ true → verdict s clear ≡ refused 7 []
+      → eqb (s .counter .0) top ≡ true → verdictOf s clear ≡ refused 7 []
   clear-7 o a b f e t = rw (o, a, b, f, e, t)
 
   module _ (p : ClearPassed s A A′ old) where
-    pub clear-8 : shows s clearSays m ≡ false → verdict s clear ≡ refused 8 (clearStrs ++ [])
+    pub clear-8 : shows s clearSays m ≡ false → verdictOf s clear ≡ refused 8 (clearStrs ++ [])
     clear-8 h = rw (p .opened, p .item, p .next, p .formed, p .recorded, p .room, h)
 
     module _ (h : shows s clearSays m ≡ true) where
-      pub clear-10 : same y (s .root) ≡ false → verdict s clear ≡ refused 10 (clearStrs ++ [])
+      pub clear-10 : same y (s .root) ≡ false → verdictOf s clear ≡ refused 10 (clearStrs ++ [])
       clear-10 e = rw (p .opened, p .item, p .next, p .formed, p .recorded, p .room, h, e)
 
-      pub clear-passed : same y (s .root) ≡ true → verdict s clear ≡ passed (clearStrs ++ [])
+      pub clear-passed : same y (s .root) ≡ true → verdictOf s clear ≡ passed (clearStrs ++ [])
       clear-passed e = rw (p .opened, p .item, p .next, p .formed, p .recorded, p .room, h, e)
 
 -- ── 0e ask ──
@@ -294,33 +288,33 @@ module _ (s : Registers) (q A A′ : ℕ) (r : Record) (y m : Dig) where
   abbrev pub askStrs : List Str
   askStrs = leafStrs (s .secret) A A′ r y
 
-  pub ask-13 : s .opened ≡ false → verdict s asks ≡ refused 13 []
+  pub ask-13 : s .opened ≡ false → verdictOf s asks ≡ refused 13 []
   ask-13 o = rw o
 
-  pub ask-4 : s .opened ≡ true → eqb q 0 ≡ true → verdict s asks ≡ refused 4 []
+  pub ask-4 : s .opened ≡ true → eqb q 0 ≡ true → verdictOf s asks ≡ refused 4 []
   ask-4 o i = rw (o, i)
 
-  pub ask-4-item : s .opened ≡ true → eqb q 0 ≡ false → eqb A 0 ≡ true → verdict s asks ≡ refused 4 []
+  pub ask-4-item : s .opened ≡ true → eqb q 0 ≡ false → eqb A 0 ≡ true → verdictOf s asks ≡ refused 4 []
   ask-4-item o i a = rw (o, i, a)
 
-  pub ask-4-next : s .opened ≡ true → eqb q 0 ≡ false → eqb A 0 ≡ false → eqb A′ 0 ≡ true → verdict s asks ≡ refused 4 []
+  pub ask-4-next : s .opened ≡ true → eqb q 0 ≡ false → eqb A 0 ≡ false → eqb A′ 0 ≡ true → verdictOf s asks ≡ refused 4 []
   ask-4-next o i a b = rw (o, i, a, b)
 
   pub ask-5 : s .opened ≡ true → eqb q 0 ≡ false → eqb A 0 ≡ false → eqb A′ 0 ≡ false → malformed r ≡ true
-      → verdict s asks ≡ refused 5 []
+      → verdictOf s asks ≡ refused 5 []
   ask-5 o i a b f = rw (o, i, a, b, f)
 
   pub ask-6 : s .opened ≡ true → eqb q 0 ≡ false → eqb A 0 ≡ false → eqb A′ 0 ≡ false → malformed r ≡ false
-      → either (eqb q A) (inGap q A A′) ≡ false → verdict s asks ≡ refused 6 []
+      → either (eqb q A) (inGap q A A′) ≡ false → verdictOf s asks ≡ refused 6 []
   ask-6 o i a b f g = rw (o, i, a, b, f, g)
 
   module _ (p : AskPassed s q A A′ r) where
-    pub ask-8 : shows s (leafSays A A′ r y) m ≡ false → verdict s asks ≡ refused 8 (askStrs ++ [])
+    pub ask-8 : shows s (leafSays A A′ r y) m ≡ false → verdictOf s asks ≡ refused 8 (askStrs ++ [])
     ask-8 h = rw (p .opened, p .asked, p .item, p .next, p .formed, p .met, h)
 
     module _ (h : shows s (leafSays A A′ r y) m ≡ true) where
-      pub ask-10 : same y (s .root) ≡ false → verdict s asks ≡ refused 10 (askStrs ++ [])
+      pub ask-10 : same y (s .root) ≡ false → verdictOf s asks ≡ refused 10 (askStrs ++ [])
       ask-10 e = rw (p .opened, p .asked, p .item, p .next, p .formed, p .met, h, e)
 
-      pub ask-passed : same y (s .root) ≡ true → verdict s asks ≡ passed (askStrs ++ [])
+      pub ask-passed : same y (s .root) ≡ true → verdictOf s asks ≡ passed (askStrs ++ [])
       ask-passed e = rw (p .opened, p .asked, p .item, p .next, p .formed, p .met, h, e)

@@ -1,79 +1,34 @@
--- The verdicts of kinds 06 to 0a, row by row: what the checks come to, and the strings formed.
+-- The verdicts of first and place, row by row: what the checks come to, and the strings formed. (The other kinds of this
+-- crate need memoranda alone: `Memos` of `replies`.)
 use mathlib.Core.Path.{_≡_, refl, sym, ap, _∙_}
 use mathlib.Core.Bool.{Bool, true, false}
 use mathlib.Core.List.{List, [], _∷_, _++_}
 use Prim.Native.Nat.{ℕ, _+_, _≤_}
 use native.Mathlib.Omega.{arith}
 use lib.Dec.{eqb}
-use lib.ListN.{drop}
 use Rattle.seqs.specs.Choose.{pick, opposite}
 use Rattle.seqs.specs.Bytes.{same}
 use Rattle.sha256.specs.Hash.{sha256}
 use Rattle.paper.specs.declared.Registers.{Registers}
 use Rattle.paper.specs.Strings.{Dig, nought, Memo, Str, leaf, memo, ei, u2, digest, cost, inGap}
 use Rattle.paper.specs.Requests as Q
-use Rattle.paper.specs.Refusals.{Check, order, isOpen, first-memo, second-memo, needs, placeForms, placeSays, noneFits, tried, Verdict, refused, passed, judge}
+use Rattle.paper.specs.Refusals.{order, placeForms, placeSays, noneFits, tried, Verdict, refused, passed}
 use Rattle.digests.specs.declared.Digest.{Digest}
 use Rattle.digests.specs.Worked.{hashed}
 use Rattle.replies.proofs.Laws.{cost-nil}
-
--- whether the digest of a memorandum is the one shown
-abbrev pub shows : Registers → Memo → Dig → Bool
-shows s t m = same (digest sha256 (memo t (s .secret))) m
-
--- what checks behind 15, 1, 2 and 3 come to
-abbrev pub verdict : List Check → Verdict
-verdict cs = judge (drop 4 order) [] cs
-
--- ── one memorandum: swap and turn ──
-
-abbrev pub oneMemo : Registers → Memo → Dig → List Check
-oneMemo s t m = isOpen s ∷ first-memo sha256 s [] (t ∷ []) m ∷ []
-
-module _ (s : Registers) (t : Memo) (m : Dig) where
-  pub one-13 : s .opened ≡ false → verdict (oneMemo s t m) ≡ refused 13 []
-  one-13 o = rw o
-
-  module _ (o : s .opened ≡ true) where
-    pub one-8 : shows s t m ≡ false → verdict (oneMemo s t m) ≡ refused 8 (memo t (s .secret) ∷ [])
-    one-8 h = rw (o, h)
-
-    pub one-passed : shows s t m ≡ true → verdict (oneMemo s t m) ≡ passed (memo t (s .secret) ∷ [])
-    one-passed h = rw (o, h)
-
--- ── two memoranda: chain ──
-
-abbrev pub twoMemos : Registers → (t1 t2 : Memo) (m1 m2 : Dig) → List Check
-twoMemos s t1 t2 m1 m2 = isOpen s ∷ first-memo sha256 s [] (t1 ∷ []) m1 ∷ second-memo sha256 s t2 m2 ∷ []
-
-module _ (s : Registers) (t1 t2 : Memo) (m1 m2 : Dig) where
-  pub two-13 : s .opened ≡ false → verdict (twoMemos s t1 t2 m1 m2) ≡ refused 13 []
-  two-13 o = rw o
-
-  module _ (o : s .opened ≡ true) where
-    pub two-8 : shows s t1 m1 ≡ false → verdict (twoMemos s t1 t2 m1 m2) ≡ refused 8 (memo t1 (s .secret) ∷ [])
-    two-8 h = rw (o, h)
-
-    module _ (h : shows s t1 m1 ≡ true) where
-      pub two-9 : shows s t2 m2 ≡ false
-          → verdict (twoMemos s t1 t2 m1 m2) ≡ refused 9 (memo t2 (s .secret) ∷ memo t1 (s .secret) ∷ [])
-      two-9 g = rw (o, h, g)
-
-      pub two-passed : shows s t2 m2 ≡ true
-          → verdict (twoMemos s t1 t2 m1 m2) ≡ passed (memo t2 (s .secret) ∷ memo t1 (s .secret) ∷ [])
-      two-passed g = rw (o, h, g)
+use Rattle.replies.proofs.Memos.{verdictOf}
 
 -- ── a number: first ──
 
 module _ (s : Registers) (A : ℕ) where
-  pub first-13 : s .opened ≡ false → verdict (needs sha256 s (Q.first A)) ≡ refused 13 []
+  pub first-13 : s .opened ≡ false → verdictOf s (Q.first A) ≡ refused 13 []
   first-13 o = rw o
 
   module _ (o : s .opened ≡ true) where
-    pub first-4 : eqb A 0 ≡ true → verdict (needs sha256 s (Q.first A)) ≡ refused 4 []
+    pub first-4 : eqb A 0 ≡ true → verdictOf s (Q.first A) ≡ refused 4 []
     first-4 h = rw (o, h)
 
-    pub first-passed : eqb A 0 ≡ false → verdict (needs sha256 s (Q.first A)) ≡ passed []
+    pub first-passed : eqb A 0 ≡ false → verdictOf s (Q.first A) ≡ passed []
     first-passed h = rw (o, h)
 
 -- its memorandum, from the leaf as it was worked
@@ -130,7 +85,7 @@ module _ (k : Dig) (A A′ B′ : ℕ) (ω y y′ : Dig) where
 
 module _ (s : Registers) (A A′ B′ : ℕ) (ω y y′ m : Dig) where
   abbrev placed : Verdict
-  placed = verdict (needs sha256 s (Q.place A A′ B′ ω y y′ m))
+  placed = verdictOf s (Q.place A A′ B′ ω y y′ m)
 
   abbrev formed : List Str
   formed = all-tried (s .secret) A A′ B′ ω y y′ m ++ []

@@ -1,66 +1,23 @@
--- The verdicts of kinds 02 to 05, row by row: what the checks come to, and the strings formed.
+-- The answers of path and pair, which form more than one string. (The verdicts of kinds 02 to 05 are those of memoranda
+-- alone: `Memos` of `replies`.)
 use mathlib.Core.Path.{_≡_, refl, sym, ap, ap₂, _∙_}
-use mathlib.Core.Bool.{Bool, true, false}
+use mathlib.Core.Bool.{true, false}
 use mathlib.Core.List.{List, [], _∷_, _++_}
-use Prim.Native.Nat.{ℕ, _+_, _≤_, _<_}
+use Prim.Native.Nat.{ℕ, _+_, _<_}
 use native.Mathlib.Omega.{arith}
-use lib.ListN.{length, take, drop, length-append}
+use lib.ListN.{length, take}
 use lib.Seq.{take-all}
-use Rattle.seqs.specs.Bytes.{same}
 use Rattle.sha256.specs.Hash.{sha256}
 use Rattle.sha256.proofs.Digests.{sha256-length}
 use Rattle.paper.specs.declared.Registers.{Registers}
-use Rattle.paper.specs.Strings.{Dig, Memo, Str, enc, digest, memo, u1, v1, u2, cost, parentForms, H, foldUp, foldForms}
+use Rattle.paper.specs.Strings.{Dig, Str, enc, digest, memo, u1, u2, cost, parentForms, H, foldUp, foldForms}
 use Rattle.paper.specs.Requests as Q
 use Rattle.digests.specs.declared.Digest.{Digest}
 use Rattle.digests.specs.Worked.{worked, hashed}
 use Rattle.replies.specs.Outcomes.{outcome, refusal, acceptance}
+use Rattle.replies.proofs.Memos.{verdictOf}
 use Rattle.replies.proofs.Laws.{cost-append, cost-nil, refused-by, answered}
-use Rattle.paper.specs.Refusals.{Check, order, isOpen, first-memo, second-memo, needs, Verdict, refused, passed, judge}
-
-abbrev pub verdict : Registers → Q.Request → Verdict
-verdict s q = judge (drop 4 order) [] (needs sha256 s q)
-
--- whether the digest of a memorandum is the one shown
-abbrev pub shows : Registers → Memo → Dig → Bool
-shows s t m = same (digest sha256 (memo t (s .secret))) m
-
-module _ (s : Registers) (x y m : Dig) where
-  pub witness-13 : s .opened ≡ false → verdict s (Q.witness x y m) ≡ refused 13 []
-  witness-13 o = rw o
-
-  module _ (o : s .opened ≡ true) where
-    pub witness-8 : shows s (u1 x y x y) m ≡ false → verdict s (Q.witness x y m) ≡ refused 8 (memo (u1 x y x y) (s .secret) ∷ [])
-    witness-8 h = rw (o, h)
-
-    pub witness-passed : shows s (u1 x y x y) m ≡ true → verdict s (Q.witness x y m) ≡ passed (memo (u1 x y x y) (s .secret) ∷ [])
-    witness-passed h = rw (o, h)
-
--- ── two memoranda: join, pair and raise differ in what they say alone ──
-
--- the checks of a request that needs an open module and two memoranda
-abbrev pub twoMemos : Registers → (t1 t2 : Memo) (m1 m2 : Dig) → List Check
-twoMemos s t1 t2 m1 m2 = isOpen s ∷ first-memo sha256 s [] (t1 ∷ []) m1 ∷ second-memo sha256 s t2 m2 ∷ []
-
-module _ (s : Registers) (t1 t2 : Memo) (m1 m2 : Dig) where
-  abbrev both : List Check
-  both = twoMemos s t1 t2 m1 m2
-
-  pub two-13 : s .opened ≡ false → judge (drop 4 order) [] both ≡ refused 13 []
-  two-13 o = rw o
-
-  module _ (o : s .opened ≡ true) where
-    pub two-8 : shows s t1 m1 ≡ false → judge (drop 4 order) [] both ≡ refused 8 (memo t1 (s .secret) ∷ [])
-    two-8 h = rw (o, h)
-
-    module _ (h : shows s t1 m1 ≡ true) where
-      pub two-9 : shows s t2 m2 ≡ false → judge (drop 4 order) [] both ≡ refused 9 (memo t2 (s .secret) ∷ memo t1 (s .secret) ∷ [])
-      two-9 g = rw (o, h, g)
-
-      pub two-passed : shows s t2 m2 ≡ true → judge (drop 4 order) [] both ≡ passed (memo t2 (s .secret) ∷ memo t1 (s .secret) ∷ [])
-      two-passed g = rw (o, h, g)
-
--- ── the answers that form more than one string ──
+use Rattle.paper.specs.Refusals.{refused, passed}
 
 -- pair: both parents, and U2
 module _ (s : Registers) (x1 y x1′ y′ m1 x2 z x2′ z′ m2 : Dig) where
@@ -70,7 +27,7 @@ module _ (s : Registers) (x1 y x1′ y′ m1 x2 z x2′ z′ m2 : Dig) where
   said : Str
   said = memo (u2 x1 x2 (H sha256 y z) x1′ x2′ (H sha256 y′ z′)) (s .secret)
 
-  pub pair-answered : verdict s (Q.pair x1 y x1′ y′ m1 x2 z x2′ z′ m2)
+  pub pair-answered : verdictOf s (Q.pair x1 y x1′ y′ m1 x2 z x2′ z′ m2)
       ≡ passed (memo (u1 x2 z x2′ z′) (s .secret) ∷ memo (u1 x1 y x1′ y′) (s .secret) ∷ [])
       → acceptance s 0x84 (digest sha256 (memo (u2 x1 x2 (H sha256 y z) x1′ x2′ (H sha256 y′ z′)) (s .secret)))
       (10 + cost (parentForms y z) + cost (parentForms y′ z′))
@@ -84,10 +41,10 @@ module _ (s : Registers) (x1 y x1′ y′ m1 x2 z x2′ z′ m2 : Dig) where
 
 -- path: both folds, and U1
 module _ (s : Registers) (x x′ : Dig) (sides : ℕ) (l : List Dig) where
-  path-13 : s .opened ≡ false → verdict s (Q.path x x′ sides l) ≡ refused 13 []
+  path-13 : s .opened ≡ false → verdictOf s (Q.path x x′ sides l) ≡ refused 13 []
   path-13 o = rw o
 
-  path-passed : s .opened ≡ true → verdict s (Q.path x x′ sides l) ≡ passed []
+  path-passed : s .opened ≡ true → verdictOf s (Q.path x x′ sides l) ≡ passed []
   path-passed o = rw o
 
   pub path-refused : s .opened ≡ false → refusal s 13 0 ≡ outcome s 1 (Q.path x x′ sides l)

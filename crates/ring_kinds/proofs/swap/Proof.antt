@@ -5,7 +5,7 @@ use Rattle.paper.specs.Requests as Q
 use Rattle.digests.proofs.Fit.{bytes-of, fit, short}
 use Rattle.replies.proofs.Laws.{refused-by, answered}
 use Rattle.paper.specs.Strings.{u2}
-use Rattle.ring_kinds.proofs.Laws.{one-13, one-8, one-passed}
+use Rattle.replies.proofs.Memos.{one-13, one-8, one-passed}
 use borrow.Author.Needs.{needs}
 use Rattle.ring_kinds.proofs.swap.Statement.{statement}
 use Rattle.ring_kinds.proofs.swap.Tie as tie

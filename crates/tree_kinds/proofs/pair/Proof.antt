@@ -5,7 +5,8 @@ use Rattle.paper.specs.Strings.{u1}
 use Rattle.paper.specs.Requests as Q
 use Rattle.digests.proofs.Fit.{fit}
 use Rattle.replies.proofs.Laws.{refused-by}
-use Rattle.tree_kinds.proofs.Laws.{two-13, two-8, two-9, two-passed, pair-answered}
+use Rattle.replies.proofs.Memos.{two-13, two-8, two-9, two-passed}
+use Rattle.tree_kinds.proofs.Laws.{pair-answered}
 use borrow.Author.Needs.{needs}
 use Rattle.tree_kinds.proofs.pair.Statement.{statement}
 use Rattle.tree_kinds.proofs.pair.Tie as tie

@@ -1,10 +1,11 @@
 -- Each return is a row of the table, with the digests as their callees worked them.
 use mathlib.Core.Path.{refl, _∙_}
 use borrow.Author.Tests.{not-true, not-false}
+use Rattle.paper.specs.Strings.{u1}
 use Rattle.paper.specs.Requests as Q
 use Rattle.digests.proofs.Fit.{bytes-of, fit, short}
 use Rattle.replies.proofs.Laws.{refused-by, answered}
-use Rattle.tree_kinds.proofs.Laws.{witness-13, witness-8, witness-passed}
+use Rattle.replies.proofs.Memos.{one-13, one-8, one-passed}
 use borrow.Author.Needs.{needs}
 use Rattle.tree_kinds.proofs.witness.Statement.{statement}
 use Rattle.tree_kinds.proofs.witness.Tie as tie
@@ -15,7 +16,7 @@ refuse-requires c κs = search needs
 returns : tie.Need-returns
 returns c =
     let a = c .before .before .before .args in
-    c .refuse .ensures ∙ refused-by (a .r) 2 (Q.witness (a .x) (a .y) (a .m)) 13 0 _ (witness-13 (a .r) (a .x) (a .y) (a .m) (not-true (a .r .opened) (c .before .if1 .taken))) refl
+    c .refuse .ensures ∙ refused-by (a .r) 2 (Q.witness (a .x) (a .y) (a .m)) 13 0 _ (one-13 (a .r) (u1 (a .x) (a .y) (a .x) (a .y)) (a .m) (not-true (a .r .opened) (c .before .if1 .taken))) refl
 
 u1-requires : tie.Need-u1-requires
 u1-requires c κs = search needs
@@ -31,7 +32,7 @@ returns-2 c =
     let a = c .before .before .before .before .before .before .before .before .args in
     c .refuse2 .ensures
     ∙ refused-by (a .r) 2 (Q.witness (a .x) (a .y) (a .m)) 8 3 _
-    (witness-8 (a .r) (a .x) (a .y) (a .m) (not-false (a .r .opened) (c .before .before .before .before .before .before .if1 .left)) (fit _ _ _ _ _ (c .before .before .before .before .u1 .ensures) (c .before .before .same-digest .ensures) (not-true _ (c .before .if2 .taken)))) refl
+    (one-8 (a .r) (u1 (a .x) (a .y) (a .x) (a .y)) (a .m) (not-false (a .r .opened) (c .before .before .before .before .before .before .if1 .left)) (fit _ _ _ _ _ (c .before .before .before .before .u1 .ensures) (c .before .before .same-digest .ensures) (not-true _ (c .before .if2 .taken)))) refl
 
 v1-requires : tie.Need-v1-requires
 v1-requires c κs = search needs
@@ -47,7 +48,7 @@ returns-3 c =
     let a = c .before .before .before .before .before .before .before .before .before .before .before .args in
     c .accept .ensures
     ∙ answered (a .r) 2 (Q.witness (a .x) (a .y) (a .m)) 0x82 5 _ _
-    (witness-passed (a .r) (a .x) (a .y) (a .m) (not-false (a .r .opened) (c .before .before .before .before .before .before .before .before .before .if1 .left)) (fit _ _ _ _ _ (c .before .before .before .before .before .before .before .u1 .ensures) (c .before .before .before .before .before .same-digest .ensures) (not-false _ (c .before .before .before .before .if2 .left))))
+    (one-passed (a .r) (u1 (a .x) (a .y) (a .x) (a .y)) (a .m) (not-false (a .r .opened) (c .before .before .before .before .before .before .before .before .before .if1 .left)) (fit _ _ _ _ _ (c .before .before .before .before .before .before .before .u1 .ensures) (c .before .before .before .before .before .same-digest .ensures) (not-false _ (c .before .before .before .before .if2 .left))))
     refl (bytes-of _ _ (c .before .before .before .v1 .ensures)) refl (short _ _ (c .before .before .before .v1 .ensures))
 
 pub witness-spec : {M : Type 1} → statement M
