@@ -1,5 +1,5 @@
 -- Laws of hexadecimal: digits and values undo each other, and so do lines and bytes.
-use mathlib.Core.Path.{_≡_, refl, sym, ap, _∙_}
+use mathlib.Core.Path.{_≡_, refl}
 use mathlib.Core.Bool.{Bool, true, false}
 use mathlib.Core.List.{List, [], _∷_, _++_}
 use Prim.Native.Nat.{ℕ, zero, suc, _+_, _-_, _*_, _/_, _%_, _<_, _≤_}
@@ -10,7 +10,7 @@ use lib.Dec.{leb}
 use lib.ListN.{length, length-append, getD, drop, drop-of-length-le, List·getD-eq-default}
 use lib.Seq.{drop-cons, getD-at}
 use borrow.Author.Tests.{le-leb, lt-leb, leb-true, leb-false}
-use Rattle.seqs.specs.Choose.{pick, both, both-true}
+use Rattle.seqs.specs.Choose.{both, both-true}
 use Rattle.seqs.specs.Bytes.{Bytes}
 use Rattle.hex.specs.Hex.{isDigit, valueOf, digitOf, allDigits, bytesOf, digitsOf, lineOf}
 

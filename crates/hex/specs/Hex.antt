@@ -1,6 +1,6 @@
 -- Hexadecimal. Document 01, "Lines": "A line is its bytes in lower-case hexadecimal, two digits each,
 -- ended by byte 0A."
-use mathlib.Core.Bool.{Bool, true, false}
+use mathlib.Core.Bool.{Bool, true}
 use mathlib.Core.List.{List, [], _∷_, _++_}
 use Prim.Native.Nat.{ℕ, _+_, _-_, _*_, _/_, _%_}
 use lib.Dec.{leb}

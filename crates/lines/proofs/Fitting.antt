@@ -9,7 +9,7 @@ use native.Mathlib.Decide.{ℕ-discrete, decLt}
 use borrow.Author.Tests.{ne-eqb, leb-true}
 use lib.Dec.{eqb, leb, ltb}
 use lib.ListN.{length, getD}
-use Rattle.seqs.specs.Choose.{pick, both, both-true, either, opposite}
+use Rattle.seqs.specs.Choose.{pick, both-true, either, opposite}
 use Rattle.seqs.specs.Bytes.{numberAt, number-at}
 use Rattle.hex.specs.Hex.{bytesOf}
 use Rattle.paper.specs.Requests.{kinds, kindOf, known, fits}

@@ -1,12 +1,12 @@
 -- Both round trips between frames and lines, and that each frame has one line.
-use mathlib.Core.Path.{_≡_, refl, sym, ap, ap₂, _∙_}
+use mathlib.Core.Path.{_≡_, refl, sym, ap, _∙_}
 use mathlib.Core.Bool.{Bool, true, false}
-use mathlib.Core.List.{List, [], _∷_, _++_}
-use Prim.Native.Nat.{ℕ, _+_, _*_, _/_, _%_, _≤_, _<_}
+use mathlib.Core.List.{List}
+use Prim.Native.Nat.{ℕ, _+_, _*_, _%_, _≤_}
 use native.Mathlib.Omega.{arith}
-use borrow.Author.Tests.{eq-eqb, ne-eqb, eqb-true, eqb-false, le-ltb, lt-ltb, ltb-true, ltb-false}
+use borrow.Author.Tests.{ne-eqb, eqb-true, eqb-false, le-ltb, ltb-false}
 use lib.Dec.{eqb, ltb}
-use lib.ListN.{length, drop}
+use lib.ListN.{length}
 use Rattle.seqs.specs.Choose.{pick, either, opposite}
 use Rattle.seqs.specs.Bytes.{Bytes}
 use Rattle.hex.specs.Hex.{allDigits, bytesOf, digitsOf, lineOf}
@@ -19,7 +19,7 @@ use Rattle.lines.specs.declared.Read.the-variants.{Frame, Refused}
 use Rattle.lines.specs.declared.Wrote.{Wrote}
 use Rattle.lines.specs.declared.Wrote.the-variants.{Line, Rejected}
 use Rattle.lines.specs.Reading.{readOf, frameAfter, wroteOf, lineAfter}
-use Rattle.lines.specs.RoundTrip.{ReadsBack, WrittenReads, WritesBack, ReadWrites, OneLine}
+use Rattle.lines.specs.RoundTrip.{WrittenReads, ReadWrites, OneLine}
 use Rattle.lines.proofs.Fitting.{firstOf, read-by, write-by}
 use Rattle.lines.proofs.Outcomes.{read-frame, write-line}
 

@@ -1,6 +1,6 @@
 -- Document 01, "Lines": what reading a line into a frame space answers and leaves, and what writing a frame as a
 -- line does. The refusals are `paper`'s.
-use mathlib.Core.List.{List, [], _∷_, _++_}
+use mathlib.Core.List.{List, _++_}
 use Prim.Native.Nat.{ℕ, _+_, _*_}
 use lib.Dec.{eqb, leb}
 use lib.ListN.{length, drop}

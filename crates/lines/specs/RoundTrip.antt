@@ -5,11 +5,9 @@ use mathlib.Core.List.{List, [], _∷_, _++_}
 use Prim.Native.Nat.{ℕ, _+_, _≤_}
 use lib.ListN.{length, drop}
 use Rattle.seqs.specs.Bytes.{Bytes}
-use Rattle.hex.specs.Hex.{bytesOf, digitsOf}
+use Rattle.hex.specs.Hex.{bytesOf}
 use Rattle.paper.specs.Requests.{kindOf}
-use Rattle.lines.specs.declared.Read.{Read}
 use Rattle.lines.specs.declared.Read.the-variants.{Frame}
-use Rattle.lines.specs.declared.Wrote.{Wrote}
 use Rattle.lines.specs.declared.Wrote.the-variants.{Line}
 use Rattle.lines.specs.Reading.{readOf, frameAfter, wroteOf, lineAfter}
 

@@ -1,6 +1,6 @@
 -- What the private functions of this crate promise one another: check 3 in numbers. `proofs/Fitting` shows that it
 -- comes to what `paper` says of a frame.
-use mathlib.Core.Bool.{Bool, true, false}
+use mathlib.Core.Bool.{Bool}
 use mathlib.Core.List.{List, [], _∷_}
 use Prim.Native.Nat.{ℕ, _+_, _*_, _/_, _^_}
 use lib.Dec.{eqb, leb}

@@ -1,17 +1,16 @@
 -- The statements of `specs/Laws`.
 use mathlib.Core.Path.{_≡_, refl, sym, ap, _∙_}
 use mathlib.Core.List.{List, [], _∷_, _++_}
-use mathlib.Core.Bool.{Bool, true, false}
+use mathlib.Core.Bool.{true, false}
 use mathlib.Core.Logic.{_⊎_, inl, inr}
 use Prim.Native.Nat.{ℕ, zero, suc, _≤_}
 use native.Mathlib.Omega.{arith}
-use borrow.Author.Tests.{le-ltb, ne-eqb}
-use lib.ListN.{length, take, drop, replicate}
+use lib.ListN.{length, drop, replicate}
 use lib.Seq.{drop-at, take-all}
 use Rattle.seqs.specs.Bytes.{Bytes, allZero}
 use Rattle.sha256.specs.Hash.{sha256}
 use Rattle.sha256.proofs.Digests.{sha256-length}
-use Rattle.hex.specs.Hex.{bytesOf, digitsOf, allDigits}
+use Rattle.hex.specs.Hex.{bytesOf, digitsOf}
 use Rattle.hex.proofs.Laws.{bytes-of-digits, digits-all, digits-length}
 use Rattle.paper.specs.declared.Registers.{Registers}
 use Rattle.paper.specs.Requests as Q

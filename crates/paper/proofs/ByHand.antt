@@ -1,13 +1,7 @@
 -- Document 01's numbers to check by hand, from the definitions: each row computes.
-use mathlib.Core.Path.{_≡_, refl, sym, ap, _∙_}
-use mathlib.Core.Bool.{Bool, true, false}
-use mathlib.Core.List.{List, [], _∷_}
-use Prim.Native.Nat.{ℕ, _+_, _*_, _/_, _%_}
-use native.Mathlib.Omega.{arith}
-use borrow.Author.Tests.{lt-ltb, ne-eqb, lt-leb}
-use lib.Dec.{eqb, ltb, leb}
-use lib.ListN.{length, drop}
-use Rattle.seqs.specs.Choose.{both, either, opposite}
+use mathlib.Core.Path.{refl, _∙_}
+use mathlib.Core.List.{List}
+use Prim.Native.Nat.{ℕ}
 use Rattle.seqs.specs.Bytes.{be64}
 use Rattle.hex.specs.Hex.{isDigit, valueOf, digitOf, lineOf}
 use Rattle.paper.specs.Strings.{Dig, malformed, inGap, recordHash, H}

@@ -1,7 +1,7 @@
 -- The bytes of a string tell the string: the encoding is injective on strings whose numbers are below 2 ^ 64 and
 -- whose digests have 32 bytes.
 use mathlib.Core.Path.{_≡_, refl, sym, ap, _∙_}
-use mathlib.Core.List.{List, [], _∷_, _++_, List-discrete}
+use mathlib.Core.List.{List, [], _∷_, List-discrete}
 use Prim.Native.Nat.{ℕ, zero, suc}
 use native.Mathlib.Decide.{ℕ-discrete}
 use native.Mathlib.Omega.{arith}
@@ -9,7 +9,7 @@ use lib.ListN.{length, take, drop, length-append}
 use lib.Seq.{take-at, drop-at}
 use Rattle.seqs.specs.Bytes.{be64, be64-length, numberOf, number-be64}
 use Rattle.paper.specs.declared.Record.{Record}
-use Rattle.paper.specs.Strings.{Dig, Memo, u1, v1, u2, ei, Str, leaf, node, entry, memo, Field, num, dig, Field-discrete, fieldsOf, tagOf, spread, widths, enc, lengthOf, Sound, SoundAll, WellFormed}
+use Rattle.paper.specs.Strings.{Dig, u1, v1, u2, ei, Str, leaf, node, entry, memo, Field, num, dig, Field-discrete, fieldsOf, tagOf, spread, widths, enc, lengthOf, SoundAll, WellFormed}
 
 -- a field's kind is its shape: what is known of it before its bytes are read
 data Shape : Type 0 where

@@ -2,15 +2,14 @@
 use mathlib.Core.Path.{_≡_, refl, sym, ap, ap₂, _∙_}
 use mathlib.Core.Bool.{Bool, true, false}
 use mathlib.Core.List.{List, [], _∷_}
-use Prim.Native.Nat.{ℕ, zero, suc, _+_, _-_, _*_, _/_, _^_, _≤_, _<_}
+use Prim.Native.Nat.{ℕ, zero, suc, _+_, _-_, _*_, _/_, _^_, _<_}
 use native.Mathlib.Omega.{arith}
 use lib.Dec.{eqb, leb}
 use lib.ListN.{length, getD, take, drop}
 use lib.Seq.{getD-drop, drop-drop}
 use Rattle.seqs.specs.Choose.{both, both-true, both-right}
 use Rattle.seqs.specs.Bytes.{numberOf}
-use Rattle.paper.specs.Strings.{Dig}
-use Rattle.paper.specs.Requests.{Carried, aNumber, aDigest, aRecord, aPath, Kind, unlock, kinds, kindOf, rowOf, takes, takesAll, sound, soundAll, fits}
+use Rattle.paper.specs.Requests.{Carried, aNumber, aDigest, aRecord, aPath, Kind, unlock, kinds, kindOf, rowOf, takesAll, soundAll, fits}
 
 -- ── a path ──
 

@@ -4,24 +4,24 @@ use mathlib.Core.Path.{_≡_, refl, sym, ap, subst, _∙_}
 use mathlib.Core.Bool.{Bool, true, false, true≢false}
 use mathlib.Core.List.{List, [], _∷_, _++_, List·Memᴰ, List·Memᴰ·head, Memᴰ·append-left, Memᴰ·append-right, List-discrete}
 use mathlib.Core.Logic.{_⊎_, inl, inr}
-use Prim.Native.Nat.{ℕ, zero, suc, _+_, _<_, _^_}
+use Prim.Native.Nat.{ℕ, _+_, _<_, _^_}
 use native.Mathlib.Omega.{arith}
 use native.Mathlib.Decide.{ℕ-discrete}
-use borrow.Author.Tests.{le-ltb, ne-eqb, eqb-false}
+use borrow.Author.Tests.{le-ltb, ne-eqb}
 use lib.Dec.{eqb}
-use lib.ListN.{length, take, drop, length-append}
+use lib.ListN.{length, take, drop}
 use lib.Seq.{take-at, drop-at}
 use Rattle.seqs.specs.Choose.{pick, both, either, opposite, both-true}
 use Rattle.seqs.specs.Bytes.{be64, be64-length, numberOf, number-be64, same, same-true}
 use Rattle.hex.specs.Hex.{bytesOf}
 use Rattle.paper.specs.declared.Record.{Record}
 use Rattle.paper.specs.declared.Registers.{Registers}
-use Rattle.paper.specs.Strings.{Dig, nought, Memo, u1, Str, leaf, entry, memo, enc, digest, blank, recordForms, recordHash}
+use Rattle.paper.specs.Strings.{Dig, nought, u1, Str, leaf, entry, memo, enc, digest, blank, recordForms, recordHash}
 use Rattle.paper.specs.Requests.{Request, setTo, kinds, kindOf, rowOf, part, requestOf}
-use Rattle.paper.specs.Refusals.{Check, order, roomFor, replyRoom, isHex, top, nextRecord, leafOf, leafForms, changeForms, changeSays, needs, applies, formedAt, Verdict, refused, passed, judge}
+use Rattle.paper.specs.Refusals.{Check, order, roomFor, replyRoom, isHex, top, nextRecord, leafOf, leafForms, changeForms, changeSays, needs, applies, formedAt, passed, judge}
 use Rattle.paper.specs.Module.{frameChecks, Told, told, answerTo}
 use Rattle.paper.specs.Collisions.{Collision}
-use Rattle.paper.proofs.Verdicts.{firstOf, formedBy, number-is, in-told, Passed, split-passed, reached, passed-number}
+use Rattle.paper.proofs.Verdicts.{firstOf, number-is, in-told, Passed, split-passed, reached, passed-number}
 use Rattle.paper.specs.Older.{Fits, Later, OlderGets8}
 
 -- ── where the number is 0 or 10, every other check is passed ──

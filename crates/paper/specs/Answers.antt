@@ -1,6 +1,6 @@
 -- Document 01, the column "answers" of its table of kinds: the reply, the new registers, the strings that the
 -- answer forms, and what the line does beyond its reply ("Replay").
-use mathlib.Core.Bool.{Bool, true, false}
+use mathlib.Core.Bool.{true}
 use mathlib.Core.List.{List, [], _∷_, _++_}
 use Prim.Native.Nat.{ℕ, _+_}
 use lib.Dec.{eqb}

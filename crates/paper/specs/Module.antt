@@ -1,5 +1,4 @@
 -- Document 01: the whole answer to a line with its reply space, and the reader's and the writer's refusals.
-use mathlib.Core.Bool.{Bool, true, false}
 use mathlib.Core.List.{List, [], _∷_, _++_}
 use Prim.Native.Nat.{ℕ, _+_, _*_}
 use lib.Dec.{eqb, ltb}

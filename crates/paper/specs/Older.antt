@@ -4,7 +4,6 @@ use mathlib.Core.Bool.{true}
 use mathlib.Core.List.{List, _++_}
 use mathlib.Core.Logic.{_⊎_}
 use Prim.Native.Nat.{ℕ, _≤_, _<_}
-use lib.ListN.{length}
 use Rattle.hex.specs.Hex.{bytesOf}
 use Rattle.paper.specs.declared.Registers.{Registers}
 use Rattle.paper.specs.Strings.{Dig}

@@ -4,7 +4,7 @@ use mathlib.Core.List.{List, [], _∷_, _++_}
 use Prim.Native.Nat.{ℕ, _+_, _-_, _*_, _%_, _^_}
 use lib.Dec.{eqb, ltb}
 use lib.ListN.{length}
-use Rattle.seqs.specs.Choose.{pick, both, either, opposite}
+use Rattle.seqs.specs.Choose.{pick, either, opposite}
 use Rattle.seqs.specs.Bytes.{same, allZero}
 use Rattle.hex.specs.Hex.{allDigits}
 use Rattle.paper.specs.declared.Record.{Record}

@@ -4,11 +4,11 @@ use mathlib.Core.Bool.{Bool, true, false}
 use mathlib.Core.List.{List, [], _∷_, _++_}
 use Prim.Native.Nat.{ℕ, _-_, _/_, _%_, _≤_, _<_}
 use native.Mathlib.Omega.{arith}
-use borrow.Author.Tests.{eq-eqb, ne-eqb, le-leb, lt-leb}
+use borrow.Author.Tests.{le-leb, lt-leb}
 use lib.Dec.{eqb, leb}
 use lib.ListN.{length, drop, take}
 use lib.Seq.{take-at}
-use Rattle.seqs.specs.Choose.{pick, both}
+use Rattle.seqs.specs.Choose.{both}
 use Rattle.seqs.specs.Over.{written, written-fits}
 use Rattle.hex.proofs.Laws.{bytes-length, line-length}
 use Rattle.sha256.proofs.Digests.{sha256-length}

@@ -4,7 +4,7 @@ use mathlib.Core.List.{List, [], _∷_, _++_, append-nil}
 use Prim.Native.Nat.{ℕ, suc, _+_, _≤_}
 use native.Mathlib.Omega.{arith}
 use borrow.Author.Tests.{le-leb}
-use lib.ListN.{length, drop, replicate}
+use lib.ListN.{length, drop}
 use Rattle.seqs.specs.Over.{putAt}
 use Rattle.paper.specs.declared.Registers.{Registers}
 use Rattle.sha256.specs.Hash.{sha256}
@@ -13,7 +13,6 @@ use Rattle.paper.specs.Requests.{Request}
 use Rattle.paper.specs.Refusals.{order, needs, Verdict, refused, passed, judge}
 use Rattle.paper.specs.Answers.{answer}
 use Rattle.paper.specs.Module.{Told, told}
-use Rattle.replies.specs.declared.Outcome.{Outcome}
 use Rattle.replies.specs.Outcomes.{outcomeOf, outcome, refusal, acceptance}
 
 -- counts of strings

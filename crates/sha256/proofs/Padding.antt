@@ -1,10 +1,10 @@
 -- The padded message: that it is the one of FIPS 180-4, section 5.1.1, in as many blocks as document 01
 -- counts, and its bytes by their places.
-use mathlib.Core.Path.{_≡_, refl, sym, ap, _∙_}
-use mathlib.Core.List.{List, [], _∷_, _++_}
+use mathlib.Core.Path.{_≡_, refl, ap, _∙_}
+use mathlib.Core.List.{List, _++_}
 use Prim.Native.Nat.{ℕ, zero, suc, _+_, _-_, _*_, _/_, _%_, _^_, _≤_, _<_}
 use native.Mathlib.Omega.{arith}
-use lib.ListN.{length, getD, take, drop, replicate, length-append, length-replicate, getD-replicate, List·getD-append}
+use lib.ListN.{length, getD, drop, replicate, length-append, length-replicate, getD-replicate, List·getD-append}
 use lib.Seq.{getD-append-seam, getD-append-add, take-append-seam, drop-append-add, drop-at}
 use lib.Pow.{field, mod-mod-pow}
 use Rattle.seqs.specs.Bytes.{byteOf, be64}

@@ -1,8 +1,8 @@
 -- FIPS 180-4, sections 5.1.1 and 5.2.1: a message padded to whole blocks, and its words.
 -- The standard counts bits; a message here is a list of bytes, so its l is 8 times the length.
-use Prim.Native.Nat.{ℕ, _+_, _-_, _*_, _/_, _%_, _^_, _≤_, _<_}
+use Prim.Native.Nat.{ℕ, _+_, _-_, _*_, _/_, _%_, _≤_, _<_}
 use mathlib.Core.Path.{_≡_}
-use mathlib.Core.List.{List, [], _∷_, _++_}
+use mathlib.Core.List.{List, _∷_, _++_}
 use lib.ListN.{length, getD, take, drop, replicate}
 use Rattle.seqs.specs.Bytes.{be64}
 

@@ -1,7 +1,7 @@
 -- One level of a path's fold, its end, and what a parent and a level cost.
-use mathlib.Core.Path.{_≡_, refl, sym, ap, _∙_}
+use mathlib.Core.Path.{_≡_, refl, ap}
 use mathlib.Core.Bool.{Bool, true, false}
-use mathlib.Core.List.{List, [], _∷_, _++_}
+use mathlib.Core.List.{List, [], _∷_}
 use Prim.Native.Nat.{ℕ, suc, _+_, _/_, _%_, _<_, _≤_}
 use native.Mathlib.Numerals.{add-one}
 use native.Mathlib.Omega.{arith}
@@ -11,7 +11,7 @@ use lib.Seq.{drop-cons}
 use Rattle.seqs.specs.Choose.{pick}
 use Rattle.seqs.specs.Bytes.{allZero}
 use Rattle.sha256.specs.Hash.{sha256}
-use Rattle.paper.specs.Strings.{Dig, Str, node, cost, H, parentForms, up, upForms, foldUp, foldForms}
+use Rattle.paper.specs.Strings.{Dig, node, cost, parentForms, up, upForms, foldUp, foldForms}
 use Rattle.digests.specs.declared.Digest.{Digest}
 use Rattle.digests.specs.Worked.{worked}
 use Rattle.replies.proofs.Laws.{cost-append}

@@ -1,6 +1,6 @@
 -- Two puts, the second where the first ended, fill the array.
-use mathlib.Core.Path.{_≡_, refl, _∙_}
-use mathlib.Core.List.{List, [], _++_, append-nil}
+use mathlib.Core.Path.{refl, _∙_}
+use mathlib.Core.List.{List, [], append-nil}
 use Prim.Native.Nat.{ℕ}
 use native.Mathlib.Omega.{arith}
 use lib.ListN.{replicate}

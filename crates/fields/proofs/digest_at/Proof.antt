@@ -3,7 +3,7 @@ use mathlib.Core.Path.{_≡_, refl, sym, _∙_}
 use mathlib.Core.List.{append-nil}
 use Prim.Native.Nat.{_-_, _≤_}
 use native.Mathlib.Omega.{arith}
-use lib.ListN.{length, replicate, drop-of-length-le}
+use lib.ListN.{replicate, drop-of-length-le}
 use Rattle.seqs.specs.Bytes.{digestAt, digest-at-length, digest-at-byte}
 use Rattle.seqs.specs.Over.{over, over-next, over-all}
 use borrow.Author.Needs.{needs}

@@ -1,9 +1,5 @@
 -- The three tests of a path, whichever fails.
-use mathlib.Core.Path.{_≡_}
-use Prim.Native.Nat.{_+_, _*_, _/_, _^_}
-use native.Mathlib.Omega.{arith}
 use borrow.Author.Tests.{eq-eqb, ne-eqb, lt-leb, le-leb}
-use lib.Dec.{eqb}
 use Rattle.seqs.specs.Choose.{both-no}
 use Rattle.lines.specs.Work.{fitting}
 use borrow.Author.Needs.{needs}

@@ -1,6 +1,5 @@
 -- Each return is the first of document 01's tests that applies, as its callee found it.
-use mathlib.Core.Path.{_≡_, refl, sym, ap, ap₂, _∙_}
-use mathlib.Core.Bool.{true, false}
+use mathlib.Core.Path.{refl, sym, ap, ap₂, _∙_}
 use Prim.Native.Nat.{ℕ, _/_, _<_, _≤_}
 use native.Mathlib.Omega.{arith}
 use borrow.Author.Tests.{not-true, not-false, leb-true, leb-false, lt-ltb, le-ltb}
@@ -8,7 +7,7 @@ use lib.ListN.{length}
 use Rattle.seqs.specs.Over.{written-fits, written-not}
 use Rattle.hex.specs.Hex.{bytesOf}
 use Rattle.hex.proofs.Laws.{bytes-length}
-use Rattle.paper.specs.Requests.{kindOf, known}
+use Rattle.paper.specs.Requests.{known}
 use Rattle.lines.specs.declared.Read.the-variants.{Frame}
 use Rattle.lines.proofs.Fitting.{known-range, fits-found}
 use Rattle.lines.proofs.Outcomes.{read-1, read-2, read-3, read-15, read-frame}

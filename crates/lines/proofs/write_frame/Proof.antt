@@ -1,8 +1,7 @@
 -- Each return is the first of document 01's tests that applies, as its callee found it.
 use mathlib.Core.Path.{_≡_, refl, sym, ap, _∙_}
-use mathlib.Core.Bool.{true, false}
+use mathlib.Core.Bool.{false}
 use Prim.Native.Nat.{_+_, _*_, _<_, _≤_}
-use native.Mathlib.Omega.{arith}
 use borrow.Author.Tests.{eq-eqb, ne-eqb, not-true, not-false, leb-true, leb-false, lt-ltb, le-ltb}
 use lib.ListN.{length}
 use Rattle.seqs.specs.Over.{written-fits, written-not}

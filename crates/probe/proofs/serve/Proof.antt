@@ -4,10 +4,8 @@ use Prim.Native.Nat.{_-_, _≤_}
 use native.Mathlib.Omega.{arith}
 use lib.ListN.{length}
 use Rattle.pieces.proofs.Laws.{found}
-use mathlib.Core.Path.{_≡_, refl, sym, subst, _∙_}
-use Prim.Native.Nat.{ℕ, _-_, _≤_, _<_}
-use Rattle.pieces.specs.declared.Cut.{Cut}
-use Rattle.pieces.specs.Cutting.{Within}
+use mathlib.Core.Path.{_≡_, refl}
+use Prim.Native.Nat.{_-_, _≤_}
 use Rattle.pieces.proofs.Laws.{within}
 use borrow.Author.Needs.{needs}
 use Rattle.probe.proofs.serve.Statement.{statement}

@@ -1,6 +1,6 @@
 -- Four stores in a row are the four bytes from k on.
 use mathlib.Core.Path.{_≡_}
-use Prim.Native.Nat.{ℕ, suc, _+_, _/_, _%_, _^_}
+use Prim.Native.Nat.{suc, _+_, _/_, _%_, _^_}
 use native.Mathlib.Omega.{arith}
 use lib.ListN.{set}
 use denote.Ref.{now}

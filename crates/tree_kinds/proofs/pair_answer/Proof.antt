@@ -1,5 +1,5 @@
 -- Both parents and their U2, with what each cost.
-use mathlib.Core.Path.{_≡_, ap, ap₂, _∙_}
+use mathlib.Core.Path.{ap, ap₂, _∙_}
 use Prim.Native.Nat.{_+_}
 use native.Mathlib.Omega.{arith}
 use Rattle.sha256.specs.Hash.{sha256}

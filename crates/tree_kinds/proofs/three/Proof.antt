@@ -1,6 +1,6 @@
 -- Three puts, each where the last one ended, fill the array.
-use mathlib.Core.Path.{_≡_, refl, ap, _∙_}
-use mathlib.Core.List.{List, [], _++_, append-nil}
+use mathlib.Core.Path.{refl, ap, _∙_}
+use mathlib.Core.List.{List, [], append-nil}
 use Prim.Native.Nat.{ℕ}
 use native.Mathlib.Omega.{arith}
 use lib.ListN.{length, replicate}

@@ -1,6 +1,6 @@
 -- By where the byte lies: in the message, at the mark, among the zeros or in the length.
 use mathlib.Core.Path.{_≡_, sym, ap, _∙_}
-use Prim.Native.Nat.{ℕ, _*_, _-_, _%_, _^_}
+use Prim.Native.Nat.{ℕ, _*_, _-_, _^_}
 use native.Mathlib.Omega.{arith}
 use lib.ListN.{length, getD}
 use denote.Ref.{now}
