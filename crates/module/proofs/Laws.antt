@@ -51,7 +51,7 @@ module _ (s : Registers) (line : List ℕ) where
   unfolding answerTo
   with-room space h = rw (le-ltb space 195 h) refl
 
-  not-hex : isHex line .fails ≡ true → answerTo sha256 s line 195 ≡ judged (refused 1 [])
+  pub not-hex : isHex line .fails ≡ true → answerTo sha256 s line 195 ≡ judged (refused 1 [])
   unfolding answerTo
   not-hex h = rw (h, none-early sha256 s (requestOf f) .of-15, none-early sha256 s (requestOf f) .of-1) refl
 

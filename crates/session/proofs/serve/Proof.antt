@@ -1,0 +1,170 @@
+-- Each turn cuts a line and answers it behind the replies so far, or uses the piece up; what the whole call comes to is
+-- what serving the rest comes to from where the turn left it.
+use mathlib.Core.Path.{_≡_, refl, _∙_}
+use Prim.Native.Nat.{_-_, _≤_}
+use native.Mathlib.Omega.{arith}
+use borrow.Author.Tests.{lt-ltb}
+use lib.ListN.{length, drop}
+use Rattle.pieces.proofs.Laws.{found}
+use Rattle.session.specs.Serving.{servedFrom, servedOf}
+use Rattle.session.proofs.Laws.{reply-fits, no-room, used-up, told, turn-line, turn-more}
+use borrow.Author.Needs.{needs}
+use Rattle.session.proofs.serve.Statement.{statement}
+use Rattle.session.proofs.serve.Tie as tie
+
+abbrev Inv-loop : tie.InvT-loop
+Inv-loop piece at line₀ held out₀ registers₀ next₀ n₀ written₀ line out registers next n written =
+    (n ≤ length line)
+    × (length line ≡ length line₀)
+    × (written ≤ length out)
+    × (length out ≡ length out₀)
+    × (servedOf registers₀ piece at line₀ held out₀ ≡ servedFrom (drop next piece) next registers line n out written)
+
+abbrev μ-loop : tie.MeasureT-loop
+μ-loop piece at line₀ held out₀ registers₀ next₀ n₀ written₀ line out registers next n written = length piece - next
+
+smaller-requires : tie.Need-smaller-requires Inv-loop μ-loop
+smaller-requires c κs = search needs
+
+loop-holds : tie.Need-loop-holds Inv-loop μ-loop
+loop-holds c =
+    let e = c .smaller .ensures in
+    (omega arith, refl, omega arith, refl, rw e)
+
+sub-if1 : tie.Need-sub-if1 Inv-loop μ-loop
+sub-if1 c = search needs
+
+same-length : tie.Need-same-length Inv-loop μ-loop
+same-length c = search needs
+
+same-length-2 : tie.Need-same-length-2 Inv-loop μ-loop
+same-length-2 c = search needs
+
+returns : tie.Need-returns Inv-loop μ-loop
+returns c =
+    let l = c .before .before in
+    let k = l .loop in
+    told _ (k .registers) (k .next) (k .line) (k .n) (k .out) (k .written)
+    (k .inv .4
+    ∙ no-room (drop (k .next) (l .before .before .before .before .before .args .piece .now)) (k .next) (k .registers) (k .line) (k .n) (k .out) (k .written)
+    (lt-ltb _ _ (c .if1 .taken)))
+
+next-line-requires : tie.Need-next-line-requires Inv-loop μ-loop
+next-line-requires c κs = search needs
+
+enum-known-rest : tie.Need-enum-known-rest Inv-loop μ-loop
+enum-known-rest c = search needs
+
+sub-reply-at : tie.Need-sub-reply-at Inv-loop μ-loop
+sub-reply-at c = search needs
+
+part-reply-at-start : tie.Need-part-reply-at-start Inv-loop μ-loop
+part-reply-at-start c = search needs
+
+part-reply-at-end : tie.Need-part-reply-at-end Inv-loop μ-loop
+part-reply-at-end c =
+    let m = c .before .before in
+    let t = m .before .before .before .before .next-line in
+    let l = m .before .before .before .before .before .before .before .before in
+    let k = l .loop in
+    let w = found (l .before .before .before .before .before .args .piece .now) (k .next) (k .n) (length (k .line)) _ _ (t .ensures .0) (m .rest .given .1)
+    (omega arith) (k .inv .0) in
+    omega (arith, t .kept .1 .1 .0)
+
+reply-at-requires : tie.Need-reply-at-requires Inv-loop μ-loop
+reply-at-requires c κs = search needs
+
+add-written : tie.Need-add-written Inv-loop μ-loop
+add-written c =
+    let t = c .before .before .before .before .reply-at in
+    let l = c .before .before .before .before .before .before .before .before .before .before .before .before .before .before .before .before .before in
+    let k = l .loop in
+    let o = k .inv .3 in
+    let f = reply-fits (k .registers) _ (k .out) (k .written) (t .result) _ (t .ensures) (k .inv .2) (t .kept .1 .1 .0) in
+    record { fits = omega (arith, l .before .before .before .before .before .good .1 .1 .1 .1 .1 .0) }
+
+loop-less : tie.Need-loop-less Inv-loop μ-loop
+loop-less c =
+    let m = c .before .before .before .before .before .before .before .before .before in
+    let t = m .before .before .before .before .next-line in
+    let l = m .before .before .before .before .before .before .before .before in
+    let k = l .loop in
+    let b = m .before .before .before .before .before .before .before .loop-test .taken in
+    let w = found (l .before .before .before .before .before .args .piece .now) (k .next) (k .n) (length (k .line)) _ _ (t .ensures .0) (m .rest .given .1)
+    (omega (arith, b)) (k .inv .0) in
+    omega (arith, b)
+
+loop-again : tie.Need-loop-again Inv-loop μ-loop
+loop-again c =
+    let r = c .before .before .before .before .reply-at in
+    let m = c .before .before .before .before .before .before .before .before .before in
+    let t = m .before .before .before .before .next-line in
+    let l = m .before .before .before .before .before .before .before .before in
+    let k = l .loop in
+    let f = reply-fits (k .registers) _ (k .out) (k .written) (r .result) _ (r .ensures) (k .inv .2) (r .kept .1 .1 .0) in
+    let e = turn-line _ (l .before .before .before .before .before .args .piece .now) (k .line) (k .out) _ (k .registers) (k .next) (k .n) (k .written) _
+    (k .inv .4) (m .before .before .before .before .before .before .if1 .left) (t .ensures .0) (t .ensures .1) _ _ (r .result) _ (m .rest .given .1) (r .ensures) in
+    let line = t .kept .1 .1 .0 in
+    let out = r .kept .1 .1 .0 in
+    (omega arith, line ∙ k .inv .1, omega arith, out ∙ k .inv .3, e)
+
+enum-known-len : tie.Need-enum-known-len Inv-loop μ-loop
+enum-known-len c = search needs
+
+loop-less-2 : tie.Need-loop-less-2 Inv-loop μ-loop
+loop-less-2 c = search needs
+
+loop-again-2 : tie.Need-loop-again-2 Inv-loop μ-loop
+loop-again-2 c =
+    let m = c .before in
+    let t = m .before .before .before .before .next-line in
+    let l = m .before .before .before .before .before .before .before .before in
+    let k = l .loop in
+    let p = l .before .before .before .before .before .args .piece .now in
+    let w = found p (k .next) (k .n) (length (k .line)) _ _ (t .ensures .0) (m .len .given .1) (omega arith) (k .inv .0) in
+    let e = turn-more _ p (k .line) (k .out) _ (k .registers) (k .next) (k .n) (k .written) _ (k .inv .4) (m .before .before .before .before .before .before .if1 .left)
+    (t .ensures .0) (t .ensures .1) _ (omega arith) (m .len .given .1) in
+    let line = t .kept .1 .1 .0 in
+    (omega arith, line ∙ k .inv .1, k .inv .2, k .inv .3, e)
+
+same-length-3 : tie.Need-same-length-3 Inv-loop μ-loop
+same-length-3 c = search needs
+
+same-length-4 : tie.Need-same-length-4 Inv-loop μ-loop
+same-length-4 c = search needs
+
+returns-2 : tie.Need-returns-2 Inv-loop μ-loop
+returns-2 c =
+    let l = c .before in
+    let k = l .loop in
+    told _ (k .registers) (k .next) (k .line) (k .n) (k .out) (k .written)
+    (k .inv .4
+    ∙ used-up (l .before .before .before .before .before .args .piece .now) (k .next) (k .registers) (k .line) (k .n) (k .out) (k .written) (c .loop-test .left))
+
+pub serve-spec : {M : Type 1} → statement M
+serve-spec =
+    tie.close
+    (tie.spec
+    Inv-loop
+    μ-loop
+    smaller-requires
+    loop-holds
+    sub-if1
+    same-length
+    same-length-2
+    returns
+    next-line-requires
+    enum-known-rest
+    sub-reply-at
+    part-reply-at-start
+    part-reply-at-end
+    reply-at-requires
+    add-written
+    loop-less
+    loop-again
+    enum-known-len
+    loop-less-2
+    loop-again-2
+    same-length-3
+    same-length-4
+    returns-2)
