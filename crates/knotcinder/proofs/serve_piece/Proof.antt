@@ -1,0 +1,119 @@
+-- Each turn serves the rest of the piece from where the last one stopped, and goes on in it; what is left to find behind it is
+-- what was to find, without the lines that it answered.
+use mathlib.Core.Path.{_≡_, refl, _∙_}
+use Prim.Native.Nat.{_-_, _≤_}
+use native.Mathlib.Omega.{arith}
+use lib.ListN.{length, drop}
+use borrow.Author.Needs.{needs}
+use Rattle.session.proofs.Whole.{Rest, rest-start, rest-then, served-onward, served-within, served-rest}
+use Rattle.knotcinder.proofs.Laws.{through, stopped}
+use Rattle.knotcinder.proofs.serve_piece.Statement.{statement}
+use Rattle.knotcinder.proofs.serve_piece.Tie as tie
+
+abbrev Inv-loop : tie.InvT-loop
+Inv-loop piece line₀ held out₀ registers₀ at₀ n₀ line out registers at n =
+    (length line ≡ length line₀)
+    × (195 ≤ length out)
+    × (length out ≡ length out₀)
+    × Rest piece registers₀ line₀ held (drop at piece) registers line n
+
+abbrev μ-loop : tie.MeasureT-loop
+μ-loop piece line₀ held out₀ registers₀ at₀ n₀ line out registers at n = length piece - at
+
+loop-holds : tie.Need-loop-holds Inv-loop μ-loop
+loop-holds c =
+    let a = c .before .before .before .args in
+    (refl, omega arith, refl, rest-start (a .piece .now) (a .r) (a .line .now) (a .held) (omega arith))
+
+serve-requires : tie.Need-serve-requires Inv-loop μ-loop
+serve-requires c κs = search needs
+
+sub-write-all : tie.Need-sub-write-all Inv-loop μ-loop
+sub-write-all c = search needs
+
+part-write-all-start : tie.Need-part-write-all-start Inv-loop μ-loop
+part-write-all-start c = search needs
+
+part-write-all-end : tie.Need-part-write-all-end Inv-loop μ-loop
+part-write-all-end c =
+    let t = c .before .before .before .before .before .before .serve in
+    let l = c .before .before .before .before .before .before .before .before .before .before in
+    let k = l .loop in
+    omega (
+      arith,
+      served-within (k .registers) (l .before .before .before .before .args .piece .now) (k .at) (k .line) (k .n) (k .out) (t .result) _ _ (t .ensures),
+    )
+
+write-all-requires : tie.Need-write-all-requires Inv-loop μ-loop
+write-all-requires c κs = search needs
+
+same-length : tie.Need-same-length Inv-loop μ-loop
+same-length c = search needs
+
+same-length-2 : tie.Need-same-length-2 Inv-loop μ-loop
+same-length-2 c = search needs
+
+returns : tie.Need-returns Inv-loop μ-loop
+returns c =
+    let t = c .before .before .before .before .before .before .before .before .before .serve in
+    let l = c .before .before .before .before .before .before .before .before .before .before .before .before .before in
+    let k = l .loop in
+    let p = l .before .before .before .before .args .piece .now in
+    let r = served-rest (k .registers) p (k .at) (k .line) (k .n) (k .out) (t .result) _ _ (t .ensures) (k .inv .3 .fits) in
+    stopped p (t .result .next) _ (t .result .registers) _ _ _ (t .result .held) (rest-then (k .inv .3) r)
+    (t .kept .1 .1 .1 .0 ∙ k .inv .0)
+
+loop-less : tie.Need-loop-less Inv-loop μ-loop
+loop-less c =
+    let t = c .before .before .before .before .before .before .before .before .before .serve in
+    let l = c .before .before .before .before .before .before .before .before .before .before .before .before .before in
+    let k = l .loop in
+    let b = c .before .before .before .before .before .before .before .before .before .before .before .before .loop-test .taken in
+    let on = served-onward (k .registers) (l .before .before .before .before .args .piece .now) (k .at) (k .line) (k .n) (k .out) (t .result) _ _
+    (t .ensures) b (k .inv .1) in
+    omega arith
+
+loop-again : tie.Need-loop-again Inv-loop μ-loop
+loop-again c =
+    let t = c .before .before .before .before .before .before .before .before .before .serve in
+    let l = c .before .before .before .before .before .before .before .before .before .before .before .before .before in
+    let k = l .loop in
+    let r = served-rest (k .registers) (l .before .before .before .before .args .piece .now) (k .at) (k .line) (k .n) (k .out) (t .result) _ _
+    (t .ensures) (k .inv .3 .fits) in
+    let line = t .kept .1 .1 .1 .0 in
+    let out = t .kept .1 .1 .1 .1 .1 .0 in
+    (line ∙ k .inv .0, omega (arith, k .inv .1), out ∙ k .inv .2, rest-then (k .inv .3) r)
+
+same-length-3 : tie.Need-same-length-3 Inv-loop μ-loop
+same-length-3 c = search needs
+
+same-length-4 : tie.Need-same-length-4 Inv-loop μ-loop
+same-length-4 c = search needs
+
+returns-2 : tie.Need-returns-2 Inv-loop μ-loop
+returns-2 c =
+    let l = c .before in
+    let k = l .loop in
+    through (l .before .before .before .before .args .piece .now) (k .at) _ (k .registers) _ (k .line) _ (k .n) (k .inv .3) (k .inv .0)
+    (c .loop-test .left)
+
+pub serve-piece-spec : {M : Type 1} → statement M
+serve-piece-spec =
+    tie.close
+    (tie.spec
+    Inv-loop
+    μ-loop
+    loop-holds
+    serve-requires
+    sub-write-all
+    part-write-all-start
+    part-write-all-end
+    write-all-requires
+    same-length
+    same-length-2
+    returns
+    loop-less
+    loop-again
+    same-length-3
+    same-length-4
+    returns-2)

@@ -1,0 +1,88 @@
+// The program: lines in on standard input, one reply line for each on standard output.
+// Replies go out together, and all of them before more input is waited for. `session` has the work and its law: what is
+// written, however the input arrives, is the replies to its lines (specs/Program.antt there follows the loops here).
+use paper::Registers;
+ghost use Prim.Native.Nat.{_≤_};
+ghost use lib.ListN.{length};
+ghost use Rattle.knotcinder.specs.Loop.{Through};
+
+// What a piece of input left: the registers, how many bytes are held of a line, and whether its replies could be written.
+struct Left {
+    registers: Registers,
+    held: usize,
+    written: bool,
+}
+
+// Answers a piece of input: as long as it has bytes left, lines are served and their replies written.
+fn serve_piece(r: Registers, piece: &[u8], line: &mut [u8], held: usize, out: &mut [u8]) -> Left
+    requires { ⌜ (held ≤ length (now line)) × (195 ≤ length (now out)) ⌝ }
+    ensures { λ o. ⌜ Through r (now (piece .entry)) (now (line .entry)) held o (now (line .exit)) ⌝ }
+{
+    let mut registers = r;
+    let mut at: usize = 0;
+    let mut n = held;
+    while at < piece.len() {
+        let o = session::serve(registers, piece, at, line, n, out);
+        let after = o.registers;
+        let w = o.written;
+        registers = after;
+        at = o.next;
+        n = o.held;
+        if !io::write_all(1, &out[0..w]) {
+            return Left {
+                registers,
+                held: n,
+                written: false,
+            };
+        }
+    }
+    Left {
+        registers,
+        held: n,
+        written: true,
+    }
+}
+
+// Answers a last line without 0A.
+fn end(r: Registers, line: &[u8], held: usize, out: &mut [u8]) {
+    let n = session::finish(r, line, held, out);
+    io::write_all(1, &out[0..n]);
+}
+
+// Reads to the end of the input. Where a read or a write fails it stops; what is then held of a line is not answered, as
+// nobody knows how that line goes on.
+// A proved loop has to end, and nothing says that input does: the turns are counted down from a number that no run uses up.
+fn run(input: &mut [u8], line: &mut [u8], out: &mut [u8])
+    requires { ⌜ 195 ≤ length (now out) ⌝ }
+{
+    let mut registers = session::fresh();
+    let mut held: usize = 0;
+    let mut turns = u64::MAX;
+    while turns > 0 {
+        let got = libc::read(0, input);
+        if got < 0 {
+            return;
+        }
+        let n = io::count(got, input);
+        if n == 0 {
+            end(registers, line, held, out);
+            return;
+        }
+        let left = serve_piece(registers, &input[0..n], line, held, out);
+        if !left.written {
+            return;
+        }
+        let after = left.registers;
+        registers = after;
+        held = left.held;
+        turns -= 1;
+    }
+}
+
+// The line's space has a byte more than the longest line, so that a longer one shows.
+fn main() {
+    let mut input = io::large_buffer();
+    let mut line = [0u8; 4245];
+    let mut out = io::large_buffer();
+    run(&mut input, &mut line, &mut out);
+}
