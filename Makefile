@@ -5,7 +5,7 @@
 test:
 	@scripts/test
 
-# Builds what there is so far and plays it.
+# Builds, and plays the accident that the module prevents.
 demo:
 	@scripts/demo
 
