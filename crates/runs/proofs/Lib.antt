@@ -2,6 +2,7 @@ pub mod Accepted
 pub mod Book
 pub mod Effects
 pub mod Formed
+pub mod Frames
 pub mod Lines
 pub mod Runs
 pub mod Safe

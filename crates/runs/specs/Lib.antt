@@ -1,3 +1,4 @@
 pub mod Run
 pub mod Endings
 pub mod Safety
+pub mod Frames

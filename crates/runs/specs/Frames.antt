@@ -1,0 +1,69 @@
+-- A request written as a line: document 01, "Lines" ("A frame is a kind byte and fields. A line is its bytes in lower-case
+-- hexadecimal"), by the column "carries" of its table of kinds. Paper's table reads a frame; this one writes it, and
+-- `proofs/Frames` shows that what is written reads back as the same request.
+use mathlib.Core.List.{List, [], _∷_, _++_}
+use Prim.Native.Nat.{ℕ}
+use lib.ListN.{length}
+use Rattle.seqs.specs.Bytes.{be64}
+use Rattle.hex.specs.Hex.{digitsOf}
+use Rattle.paper.specs.declared.Record.{Record}
+use Rattle.paper.specs.Strings.{Dig, numbers, nums, spread}
+use Rattle.paper.specs.Requests.{Request, path, witness, join, pair, raise, swap, first, place, turn, chain, adopt, setTo, clear, ask, askNone, unlock}
+use Rattle.paper.specs.Refusals.{replyRoom}
+use Rattle.runs.specs.Run.{Turn}
+
+-- lists of bytes one behind the other
+abbrev pub together : List (List ℕ) → List ℕ
+together [] = []
+together (p ∷ ps) = p ++ together ps
+
+-- a record's four numbers; a path's "n (1 byte), sides (8), n siblings"
+abbrev pub recordBytes : Record → List ℕ
+recordBytes r = spread (nums (numbers r))
+
+abbrev pub pathBytes : (sides : ℕ) → List Dig → List ℕ
+pathBytes sides l = length l ∷ (be64 sides ++ together l)
+
+-- a kind, and the things that it carries, each as bytes
+pub record Written : Type 0 where
+  pub kind : ℕ
+  pub parts : List (List ℕ)
+
+abbrev pub written : Request → Written
+written (path x x′ sides l) = record { kind = 0x01; parts = x ∷ x′ ∷ pathBytes sides l ∷ [] }
+written (witness x y m) = record { kind = 0x02; parts = x ∷ y ∷ m ∷ [] }
+written (join x y x′ y′ m1 z z′ m2) = record { kind = 0x03; parts = x ∷ y ∷ x′ ∷ y′ ∷ m1 ∷ z ∷ z′ ∷ m2 ∷ [] }
+written (pair x1 y x1′ y′ m1 x2 z x2′ z′ m2) =
+    record { kind = 0x04; parts = x1 ∷ y ∷ x1′ ∷ y′ ∷ m1 ∷ x2 ∷ z ∷ x2′ ∷ z′ ∷ m2 ∷ [] }
+written (raise x1 x2 y x1′ x2′ y′ m1 z z′ m2) =
+    record { kind = 0x05; parts = x1 ∷ x2 ∷ y ∷ x1′ ∷ x2′ ∷ y′ ∷ m1 ∷ z ∷ z′ ∷ m2 ∷ [] }
+written (swap x1 x2 y y′ m) = record { kind = 0x06; parts = x1 ∷ x2 ∷ y ∷ y′ ∷ m ∷ [] }
+written (first A) = record { kind = 0x07; parts = be64 A ∷ [] }
+written (place A A′ B′ ω y y′ m) =
+    record { kind = 0x08; parts = be64 A ∷ be64 A′ ∷ be64 B′ ∷ ω ∷ y ∷ y′ ∷ m ∷ [] }
+written (turn x y m) = record { kind = 0x09; parts = x ∷ y ∷ m ∷ [] }
+written (chain x y m1 z m2) = record { kind = 0x0a; parts = x ∷ y ∷ m1 ∷ z ∷ m2 ∷ [] }
+written (adopt y y′ m) = record { kind = 0x0b; parts = y ∷ y′ ∷ m ∷ [] }
+written (setTo A A′ old v2 v3 v4 y y′ m) =
+    record {
+      kind = 0x0c;
+      parts = be64 A ∷ be64 A′ ∷ recordBytes old ∷ be64 v2 ∷ be64 v3 ∷ be64 v4 ∷ y ∷ y′ ∷ m ∷ [];
+    }
+written (clear A A′ old y y′ m) =
+    record { kind = 0x0d; parts = be64 A ∷ be64 A′ ∷ recordBytes old ∷ y ∷ y′ ∷ m ∷ [] }
+written (ask q A A′ r y m) =
+    record { kind = 0x0e; parts = be64 q ∷ be64 A ∷ be64 A′ ∷ recordBytes r ∷ y ∷ m ∷ [] }
+written (askNone q) = record { kind = 0x0f; parts = be64 q ∷ [] }
+written (unlock k) = record { kind = 0x10; parts = k ∷ [] }
+
+-- the frame of a request
+abbrev pub frameOf : Request → List ℕ
+frameOf q = written q .kind ∷ together (written q .parts)
+
+-- its line, with "reply space of 195 bytes"
+abbrev pub turnOf : Request → Turn
+turnOf q = record { line = digitsOf (frameOf q); space = replyRoom }
+
+abbrev pub turnsOf : List Request → List Turn
+turnsOf [] = []
+turnsOf (q ∷ qs) = turnOf q ∷ turnsOf qs
