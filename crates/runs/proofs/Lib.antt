@@ -1,9 +1,12 @@
 pub mod Accepted
 pub mod Book
+pub mod Climbs
 pub mod Effects
+pub mod Fed
 pub mod Formed
 pub mod Frames
 pub mod Lines
+pub mod Reach
 pub mod Runs
 pub mod Safe
 pub mod Widths

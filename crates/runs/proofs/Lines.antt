@@ -31,6 +31,12 @@ module _ (D : List ℕ → Dig) (s : Registers) (line : List ℕ) (space : ℕ) 
     on-time : ltb space replyRoom ≡ false → isHex line .fails ≡ false → known (kindOf f) ≡ true → fits f ≡ true
         → answerTo D s line space ≡ told D s (kindOf f) q (judge late [] (needs D s q)) → Sorted
 
+  -- read and answered
+  pub read-is : ltb space replyRoom ≡ false → isHex line .fails ≡ false → known (kindOf f) ≡ true → fits f ≡ true
+      → answerTo D s line space ≡ told D s (kindOf f) q (judge late [] (needs D s q))
+  unfolding answerTo
+  read-is h i j k = let e = none-early D s q in rw (h, i, j, k, e .of-15, e .of-1, e .of-2, e .of-3) refl
+
   by-tests : (a b c d : Bool) → ltb space replyRoom ≡ a → isHex line .fails ≡ b → known (kindOf f) ≡ c → fits f ≡ d → Sorted
   unfolding answerTo
   by-tests true b c d h i j k = early 15 (λ z. omega arith) (let e = none-early D s q in rw (h, e .of-15) refl)
@@ -39,8 +45,7 @@ module _ (D : List ℕ → Dig) (s : Registers) (line : List ℕ) (space : ℕ) 
       early 2 (λ z. omega arith) (let e = none-early D s q in rw (h, i, j, e .of-15, e .of-1, e .of-2) refl)
   by-tests false false true false h i j k =
       early 3 (λ z. omega arith) (let e = none-early D s q in rw (h, i, j, k, e .of-15, e .of-1, e .of-2, e .of-3) refl)
-  by-tests false false true true h i j k =
-      on-time h i j k (let e = none-early D s q in rw (h, i, j, k, e .of-15, e .of-1, e .of-2, e .of-3) refl)
+  by-tests false false true true h i j k = on-time h i j k (read-is h i j k)
 
   pub sorted : Sorted
   sorted = by-tests (ltb space replyRoom) (isHex line .fails) (known (kindOf f)) (fits f) refl refl refl refl

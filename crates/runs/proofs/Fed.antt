@@ -1,0 +1,169 @@
+-- Honest lines fed one after another: a request that a line can carry and whose checks all pass is accepted, one that issues
+-- a memorandum puts it first in the book, and runs of such lines put together.
+use mathlib.Core.Path.{_≡_, refl, sym, ap, subst, _∙_}
+use mathlib.Core.Bool.{Bool, true, false}
+use mathlib.Core.List.{List, [], _∷_, _++_}
+use Prim.Native.Nat.{ℕ, _+_}
+use lib.ListN.{length}
+use Rattle.seqs.specs.Choose.{pick, either, either-yes}
+use Rattle.seqs.specs.Bytes.{same, same-refl}
+use Rattle.hex.specs.Hex.{bytesOf, digitsOf}
+use Rattle.paper.specs.declared.Registers.{Registers}
+use Rattle.paper.specs.Strings.{Dig, Memo, Str, memo, digest}
+use Rattle.paper.specs.Requests.{Request, kindOf, known, fits, requestOf}
+use Rattle.paper.specs.Refusals.{replyRoom, noneFits, needs, passed, judge}
+use Rattle.paper.specs.Answers.{Change, Effect, issues, Answer, issue, answer}
+use Rattle.paper.specs.Module.{Told, told}
+use Rattle.rings.specs.Changes.{Step}
+use Rattle.runs.specs.Run.{Items, last, Issue, standsFor, isIssued, meaning, World, toldAt, landed, next}
+use Rattle.runs.specs.Endings.{carried}
+use Rattle.runs.specs.Frames.{written, frameOf, turnOf, turnsOf}
+use Rattle.runs.specs.Honest.{note}
+use Rattle.runs.specs.Liveness.{AllIssued, fed, Honest}
+use Rattle.runs.proofs.Accepted.{NoneFails, formedAll, all-pass, judge-passed}
+use Rattle.runs.proofs.Lines.{late, read-is}
+use Rattle.runs.proofs.Frames.{Sendable, reads-back, line-is-hex, line-is-frame}
+
+-- the same world with other strings and memoranda
+abbrev pub at : World → List Str → List Issue → World
+at w F b = record { registers = w .registers; formed = F; book = b; items = w .items; changed = w .changed }
+
+module _ (D : List ℕ → Dig) where
+  -- requests fed as their lines
+  abbrev pub run : World → List Request → World
+  run w qs = fed D w (turnsOf qs)
+
+  abbrev pub Fair : World → List Request → Type 0
+  Fair w qs = Honest D w (turnsOf qs)
+
+  pub run-append : (w : World) (a b : List Request) → run w (a ++ b) ≡ run (run w a) b
+  run-append w [] b = refl
+  run-append w (q ∷ a) b = run-append (next D last w (turnOf q)) a b
+
+  pub fair-append : (w : World) (a b : List Request) → Fair w a → Fair (run w a) b → Fair w (a ++ b)
+  fair-append w [] b h k = k
+  fair-append w (q ∷ a) b h k = (h .0, h .1, fair-append (next D last w (turnOf q)) a b (h .2) k)
+
+  -- ── one line ──
+
+  module _ (w : World) (q : Request) (ok : Sendable q) where
+    abbrev s : Registers
+    s = w .registers
+
+    asked-is : requestOf (bytesOf (turnOf q .line)) ≡ q
+    asked-is = let r = reads-back q ok in ap requestOf (line-is-frame q r) ∙ r .read
+
+    pub told-is : NoneFails (needs D s q)
+        → toldAt D w (turnOf q) ≡ told D s (written q .kind) q (passed (formedAll late [] (needs D s q)))
+    told-is n =
+        let r = reads-back q ok in
+        let e = line-is-frame q r in
+        read-is D s (digitsOf (frameOf q)) replyRoom refl (line-is-hex q r)
+        (subst (λ (f : List ℕ). known (kindOf f) ≡ true) (sym e) (r .kind-known)) (subst (λ (f : List ℕ). fits f ≡ true) (sym e) (r .fit))
+        ∙ ap (λ (f : List ℕ). told D s (kindOf f) (requestOf f) (judge late [] (needs D s (requestOf f)))) e
+        ∙ ap (λ (p : Request). told D s (written q .kind) p (judge late [] (needs D s p))) (r .read)
+        ∙ ap (told D s (written q .kind) q) (judge-passed late [] (needs D s q) (all-pass late (needs D s q) n))
+
+    -- the line is accepted and honest, and the world after it is the one that its answer leaves
+    pub fair-one : NoneFails (needs D s q) → AllIssued (carried q) (w .book) → (qs : List Request)
+        → Fair (next D last w (turnOf q)) qs → Fair w (q ∷ qs)
+    fair-one n i qs h =
+        (ap (λ (a : Told). a .refusal) (told-is n), subst (λ (p : Request). AllIssued (carried p) (w .book)) (sym asked-is) i, h)
+
+    pub lands : NoneFails (needs D s q)
+        → next D last w (turnOf q) ≡ landed D last w (told D s (written q .kind) q (passed (formedAll late [] (needs D s q))))
+    lands n = ap (landed D last w) (told-is n)
+
+    -- a memorandum issued stands first in the book
+    pub issued-first : NoneFails (needs D s q) → (shown : List ℕ) (before : List Str) (t : Memo) (c : Change)
+        → answer D s q ≡ issue D s shown before t c
+        → (F : List Str) × (next D last w (turnOf q) ≡ at w F (record { memorandum = note D s t; does = meaning (w .book) c } ∷ w .book))
+    issued-first n shown before t c e =
+        let fs = formedAll late [] (needs D s q) in (
+          ((memo t (s .secret) ∷ before) ++ fs) ++ w .formed,
+          lands n
+          ∙ ap (λ (a : Answer). landed D last w (record {
+            refusal = 0;
+            says = (0x80 + written q .kind) ∷ a .lists;
+            after = a .after;
+            formed = a .forms ++ fs;
+            effect = a .effect;
+          })) e,
+        )
+
+  -- ── memoranda ──
+
+  -- the memorandum that a string says fits it
+  pub note-fits : (k : Dig) (t : Memo) (l : List Memo) → noneFits D k (t ∷ l) (digest D (memo t k)) ≡ false
+  note-fits k t l = rw (same-refl (digest D (memo t k))) refl
+
+  -- also where it is tried second
+  pub note-fits-second : (k : Dig) (t u : Memo) → noneFits D k (t ∷ u ∷ []) (digest D (memo u k)) ≡ false
+  note-fits-second k t u = by-test (same (digest D (memo t k)) (digest D (memo u k)))
+    where
+      by-test : (b : Bool) → pick b false (noneFits D k (u ∷ []) (digest D (memo u k))) ≡ false
+      by-test true = refl
+      by-test false = note-fits k u []
+
+  pub head-issued : (m : Dig) (c : List Step) (b : List Issue) → isIssued m (record { memorandum = m; does = c } ∷ b) ≡ true
+  head-issued m c b = rw (same-refl m) refl
+
+  pub head-stands : (m : Dig) (c : List Step) (b : List Issue) → standsFor m (record { memorandum = m; does = c } ∷ b) ≡ c
+  head-stands m c b = rw (same-refl m) refl
+
+  -- ── lines that change nothing and get a memorandum ──
+
+  pub record Got (w : World) (qs : List Request) (t : Memo) : Type 0 where
+    pub formed : List Str
+    pub book : List Issue
+    pub ends : run w qs ≡ at w formed book
+    pub fair : Fair w qs
+    pub keeps : (m : Dig) → isIssued m (w .book) ≡ true → isIssued m book ≡ true
+    pub got : isIssued (note D (w .registers) t) book ≡ true
+
+  pub says-also : {w : World} {qs : List Request} {t u : Memo} → t ≡ u → Got w qs t → Got w qs u
+  says-also {w} {qs} e g = subst (Got w qs) e g
+
+  -- one after the other
+  pub then : {w : World} {a b : List Request} {t u : Memo} (g : Got w a t) → Got (at w (g .formed) (g .book)) b u → Got w (a ++ b) u
+  then {w} {a} {b} g h =
+      record {
+        formed = h .formed;
+        book = h .book;
+        ends = run-append w a b ∙ ap (λ (v : World). run v b) (g .ends) ∙ h .ends;
+        fair = fair-append w a b (g .fair) (subst (λ (v : World). Fair v b) (sym (g .ends)) (h .fair));
+        keeps = λ m i. h .keeps m (g .keeps m i);
+        got = h .got;
+      }
+
+  -- a line that issues
+  pub say : (w : World) (q : Request) (shown : List ℕ) (before : List Str) (t : Memo) (c : Change) → Sendable q
+      → NoneFails (needs D (w .registers) q) → AllIssued (carried q) (w .book)
+      → answer D (w .registers) q ≡ issue D (w .registers) shown before t c → Got w (q ∷ []) t
+  say w q shown before t c ok n i e =
+      let r = issued-first w q ok n shown before t c e in
+      record {
+        formed = r .0;
+        book = _;
+        ends = r .1;
+        fair = fair-one w q ok n i [] tt;
+        keeps = λ m j. rw (j, either-yes) refl;
+        got = head-issued (note D (w .registers) t) (meaning (w .book) c) (w .book);
+      }
+
+  -- ── lines that bring about other registers and another list ──
+
+  pub record Brings (w : World) (qs : List Request) (s′ : Registers) (l : Items) : Type 0 where
+    pub fair : Fair w qs
+    pub registers-are : run w qs .registers ≡ s′
+    pub items-are : run w qs .items ≡ l
+
+  pub after-got : {w : World} {a b : List Request} {t : Memo} {s′ : Registers} {l : Items} (g : Got w a t)
+      → Brings (at w (g .formed) (g .book)) b s′ l → Brings w (a ++ b) s′ l
+  after-got {w} {a} {b} g h =
+      let e : run w (a ++ b) ≡ run (at w (g .formed) (g .book)) b = run-append w a b ∙ ap (λ (v : World). run v b) (g .ends) in
+      record {
+        fair = fair-append w a b (g .fair) (subst (λ (v : World). Fair v b) (sym (g .ends)) (h .fair));
+        registers-are = ap (λ (v : World). v .registers) e ∙ h .registers-are;
+        items-are = ap (λ (v : World). v .items) e ∙ h .items-are;
+      }

@@ -1,0 +1,36 @@
+-- What one may want of the list: document 01, "Replay" ("Legal: ..") and demand 3 ("every legal change and every question on
+-- a number above 0").
+use mathlib.Core.Path.{_≡_}
+use mathlib.Core.Bool.{false}
+use mathlib.Core.Logic.{_≢_}
+use Prim.Native.Nat.{ℕ, _<_, _^_}
+use Rattle.paper.specs.declared.Record.{Record}
+use Rattle.paper.specs.Strings.{blank}
+use Rattle.paper.specs.Refusals.{clearedRecord}
+use Rattle.rings.specs.Lists.{Listed, Unlisted}
+use Rattle.runs.specs.Run.{Items}
+
+pub data Wish : Type 0 where
+  insertItem : (A : ℕ) → Wish
+  removeItem : (A : ℕ) → Wish
+  swapPlaces : (A B : ℕ) → Wish
+  setRecord : (A v2 v3 v4 : ℕ) → Wish
+  clearRecord : (A : ℕ) → Wish
+  askAbout : (q : ℕ) → Wish
+
+-- "Numbers are 8 bytes"
+abbrev pub InEightBytes : ℕ → Type 0
+InEightBytes n = n < 2 ^ 64
+
+abbrev pub IsListed : (A : ℕ) → Items → Type 0
+IsListed A l = (r : Record) × Listed A r l
+
+-- "to insert a number that isn't 0 and isn't listed, to remove a listed empty item, to swap the places of two listed items,
+-- to set a listed item, to clear a recorded one"; "every question on a number above 0"
+abbrev pub Legal : Items → Wish → Type 0
+Legal l (insertItem A) = (0 < A) × InEightBytes A × Unlisted A l
+Legal l (removeItem A) = Listed A clearedRecord l
+Legal l (swapPlaces A B) = (A ≢ B) × IsListed A l × IsListed B l
+Legal l (setRecord A v2 v3 v4) = IsListed A l × InEightBytes v2 × InEightBytes v3 × InEightBytes v4
+Legal l (clearRecord A) = (r : Record) × Listed A r l × (blank r ≡ false)
+Legal l (askAbout q) = (0 < q) × InEightBytes q
