@@ -6,7 +6,10 @@ pub mod Fed
 pub mod Formed
 pub mod Frames
 pub mod Lines
+pub mod Places
 pub mod Reach
+pub mod Rings
 pub mod Runs
 pub mod Safe
+pub mod Sizes
 pub mod Widths

@@ -1,0 +1,218 @@
+-- Leaves and their places: a leaf that occurs is found by a test, the tree is that leaf under its way, or two leaves under
+-- their fork, and exchanging the two changes nothing else.
+use mathlib.Core.Path.{_≡_, refl, sym, ap, ap₂, _∙_}
+use mathlib.Core.Bool.{Bool, true, false, true≢false}
+use mathlib.Core.List.{List, [], _∷_, _++_}
+use mathlib.Core.Logic.{_⊎_, inl, inr, _≢_}
+use Prim.Native.Nat.{ℕ, _+_, _≤_, _<_}
+use native.Mathlib.Decide.{decLt}
+use native.Mathlib.Omega.{arith}
+use Rattle.seqs.specs.Choose.{pick, either}
+use Rattle.paper.specs.Strings.{Dig, H}
+use Rattle.rings.specs.Trees.{Leaf, Leaf-discrete, Tree, empty, tip, branch, leaves, hashOf, count}
+use Rattle.rings.proofs.Counting.{count-nil, count-append, count-single, count-head}
+use Rattle.runs.specs.Ways.{Level, onLeft, onRight, Way, has, found, wayTo, rise, Fork, under, forkOf, riseTwo, leftOne, rightOne, ifYes, theOther, exchanged}
+
+-- ── a tree under a way ──
+
+abbrev beside : Level → Tree → Tree
+beside (onLeft S) X = branch S X
+beside (onRight S) X = branch X S
+
+abbrev pub plug : Way → Tree → Tree
+plug [] X = X
+plug (v ∷ p) X = plug p (beside v X)
+
+plug-last : (p : Way) (v : Level) (X : Tree) → plug (p ++ (v ∷ [])) X ≡ beside v (plug p X)
+plug-last [] v X = refl
+plug-last (u ∷ p) v X = plug-last p v (beside u X)
+
+pub rise-plug : (D : List ℕ → Dig) (p : Way) (X : Tree) → rise D p (hashOf D X) ≡ hashOf D (plug p X)
+rise-plug D [] X = refl
+rise-plug D (onLeft S ∷ p) X = rise-plug D p (branch S X)
+rise-plug D (onRight S ∷ p) X = rise-plug D p (branch X S)
+
+-- two trees under a fork
+abbrev pub plug-two : Fork → (X Y : Tree) → Tree
+plug-two f X Y = plug (f .above) (branch (plug (f .left) X) (plug (f .right) Y))
+
+pub rise-two : (D : List ℕ → Dig) (f : Fork) (X Y : Tree) → riseTwo D f (hashOf D X) (hashOf D Y) ≡ hashOf D (plug-two f X Y)
+rise-two D f X Y =
+    ap₂ (λ (x y : Dig). rise D (f .above) (H D x y)) (rise-plug D (f .left) X) (rise-plug D (f .right) Y)
+    ∙ rise-plug D (f .above) (branch (plug (f .left) X) (plug (f .right) Y))
+
+-- ── found by a test ──
+
+either-cases : (a b : Bool) → either a b ≡ true → (a ≡ true) ⊎ ((a ≡ false) × (b ≡ true))
+either-cases true b h = inl refl
+either-cases false b h = inr (refl, h)
+
+module _ (p : Leaf → Bool) where
+  -- a leaf that occurs and passes
+  pub has-it : (x : Leaf) (T : Tree) → p x ≡ true → 0 < count x (leaves T) → has p T ≡ true
+  has-it x empty e h = absurd (omega (arith, count-nil x))
+  has-it x (tip y) e h = let q = count-single x y h in ap p (sym q) ∙ e
+  has-it x (branch l r) e h = by-side (decLt 0 (count x (leaves l))) (has-it x l e) (has-it x r e)
+    where
+      in-left : (a b : Bool) → a ≡ true → either a b ≡ true
+      in-left a b k = rw k refl
+
+      in-right : (a b : Bool) → b ≡ true → either a b ≡ true
+      in-right true b k = refl
+      in-right false b k = k
+
+      by-side : Dec (0 < count x (leaves l)) → (0 < count x (leaves l) → has p l ≡ true) → (0 < count x (leaves r) → has p r ≡ true)
+          → either (has p l) (has p r) ≡ true
+      by-side (yes k) f g = in-left (has p l) (has p r) (f k)
+      by-side (no n) f g = in-right (has p l) (has p r) (g (omega (arith, count-append x (leaves l) (leaves r))))
+
+  pub found-passes : (T : Tree) → has p T ≡ true → p (found p T) ≡ true
+  found-passes empty h = absurd (true≢false (sym h))
+  found-passes (tip x) h = h
+  found-passes (branch l r) h = by-side (has p l) refl h (found-passes l) (found-passes r)
+    where
+      by-side : (b : Bool) → has p l ≡ b → either b (has p r) ≡ true → (has p l ≡ true → p (found p l) ≡ true)
+          → (has p r ≡ true → p (found p r) ≡ true) → p (pick b (found p l) (found p r)) ≡ true
+      by-side true e k f g = f e
+      by-side false e k f g = g k
+
+  pub found-occurs : (T : Tree) → has p T ≡ true → 0 < count (found p T) (leaves T)
+  found-occurs empty h = absurd (true≢false (sym h))
+  found-occurs (tip x) h = count-head x x [] refl
+  found-occurs (branch l r) h = by-side (has p l) refl h (found-occurs l) (found-occurs r)
+    where
+      by-side : (b : Bool) → has p l ≡ b → either b (has p r) ≡ true → (has p l ≡ true → 0 < count (found p l) (leaves l))
+          → (has p r ≡ true → 0 < count (found p r) (leaves r)) → 0 < count (pick b (found p l) (found p r)) (leaves l ++ leaves r)
+      by-side true e k f g = omega (arith, f e, count-append (found p l) (leaves l) (leaves r))
+      by-side false e k f g = omega (arith, g k, count-append (found p r) (leaves l) (leaves r))
+
+  -- the tree is the leaf under its way
+  pub located : (T : Tree) → has p T ≡ true → plug (wayTo p T) (tip (found p T)) ≡ T
+  located empty h = absurd (true≢false (sym h))
+  located (tip x) h = refl
+  located (branch l r) h = by-side (has p l) refl h (located l) (located r)
+    where
+      by-side : (b : Bool) → has p l ≡ b → either b (has p r) ≡ true → (has p l ≡ true → plug (wayTo p l) (tip (found p l)) ≡ l)
+          → (has p r ≡ true → plug (wayTo p r) (tip (found p r)) ≡ r)
+          → plug (pick b (wayTo p l ++ (onRight r ∷ [])) (wayTo p r ++ (onLeft l ∷ []))) (tip (pick b (found p l) (found p r))) ≡ branch l r
+      by-side true e k f g = plug-last (wayTo p l) (onRight r) _ ∙ ap (λ (t : Tree). branch t r) (f e)
+      by-side false e k f g = plug-last (wayTo p r) (onLeft l) _ ∙ ap (λ (t : Tree). branch l t) (g k)
+
+-- ── two leaves under their fork ──
+
+abbrev pub Forks : Fork → (x y : Leaf) → Tree → Type 0
+Forks f x y T = plug-two f (tip (leftOne f x y)) (tip (rightOne f x y)) ≡ T
+
+module _ (p q : Leaf → Bool) where
+  pub forked : (T : Tree) → has p T ≡ true → has q T ≡ true → found p T ≢ found q T → Forks (forkOf p q T) (found p T) (found q T) T
+  forked empty h k n = absurd (true≢false (sym h))
+  forked (tip x) h k n = absurd (n refl)
+  forked (branch l r) h k n = by-sides (has p l) (has q l) refl refl h k n (forked l) (forked r)
+    where
+      by-sides : (a b : Bool) → has p l ≡ a → has q l ≡ b → either a (has p r) ≡ true → either b (has q r) ≡ true
+          → pick a (found p l) (found p r) ≢ pick b (found q l) (found q r)
+          → (has p l ≡ true → has q l ≡ true → found p l ≢ found q l → Forks (forkOf p q l) (found p l) (found q l) l)
+          → (has p r ≡ true → has q r ≡ true → found p r ≢ found q r → Forks (forkOf p q r) (found p r) (found q r) r)
+          → Forks
+          (pick a
+          (pick b (under (onRight r) (forkOf p q l)) (record { left = wayTo p l; right = wayTo q r; above = []; crossed = false }))
+          (pick b (record { left = wayTo q l; right = wayTo p r; above = []; crossed = true }) (under (onLeft l) (forkOf p q r))))
+          (pick a (found p l) (found p r)) (pick b (found q l) (found q r)) (branch l r)
+      by-sides true true e e′ h k n f g =
+          plug-last (forkOf p q l .above) (onRight r) _ ∙ ap (λ (t : Tree). branch t r) (f e e′ n)
+      by-sides true false e e′ h k n f g = ap₂ (λ (t u : Tree). branch t u) (located p l e) (located q r k)
+      by-sides false true e e′ h k n f g = ap₂ (λ (t u : Tree). branch t u) (located q l e′) (located p r h)
+      by-sides false false e e′ h k n f g =
+          plug-last (forkOf p q r .above) (onLeft l) _ ∙ ap (λ (t : Tree). branch l t) (g h k n)
+
+-- ── exchanging two leaves ──
+
+module _ (x y : Leaf) where
+  -- a tree without them stays as it is
+  other-stays : (z : Leaf) → count x (z ∷ []) ≡ 0 → count y (z ∷ []) ≡ 0 → theOther x y z ≡ z
+  other-stays z h k = by-test (Leaf-discrete z x) (Leaf-discrete z y)
+    where
+      by-test : (d : Dec (z ≡ x)) (c : Dec (z ≡ y)) → ifYes d y (ifYes c x z) ≡ z
+      by-test (yes e) c = absurd (omega (arith, count-head x z [] (sym e)))
+      by-test (no n) (yes e) = absurd (omega (arith, count-head y z [] (sym e)))
+      by-test (no n) (no m) = refl
+
+  stays : (T : Tree) → count x (leaves T) ≡ 0 → count y (leaves T) ≡ 0 → exchanged x y T ≡ T
+  stays empty h k = refl
+  stays (tip z) h k = ap (λ (u : Leaf). tip u) (other-stays z h k)
+  stays (branch l r) h k =
+      let c = count-append x (leaves l) (leaves r) in
+      let d = count-append y (leaves l) (leaves r) in
+      ap₂ (λ (t u : Tree). branch t u) (stays l (omega arith) (omega arith)) (stays r (omega arith) (omega arith))
+
+  -- how often a leaf occurs beside a way
+  abbrev around : Leaf → Way → ℕ
+  around z [] = 0
+  around z (onLeft S ∷ p) = count z (leaves S) + around z p
+  around z (onRight S ∷ p) = count z (leaves S) + around z p
+
+  count-plug : (z : Leaf) (p : Way) (X : Tree) → count z (leaves (plug p X)) ≡ count z (leaves X) + around z p
+  count-plug z [] X = omega arith
+  count-plug z (onLeft S ∷ p) X = omega (arith, count-plug z p (branch S X), count-append z (leaves S) (leaves X))
+  count-plug z (onRight S ∷ p) X = omega (arith, count-plug z p (branch X S), count-append z (leaves X) (leaves S))
+
+  exchanged-plug : (p : Way) (X : Tree) → around x p ≡ 0 → around y p ≡ 0 → exchanged x y (plug p X) ≡ plug p (exchanged x y X)
+  exchanged-plug [] X h k = refl
+  exchanged-plug (onLeft S ∷ p) X h k =
+      exchanged-plug p (branch S X) (omega arith) (omega arith)
+      ∙ ap (λ (t : Tree). plug p (branch t (exchanged x y X))) (stays S (omega arith) (omega arith))
+  exchanged-plug (onRight S ∷ p) X h k =
+      exchanged-plug p (branch X S) (omega arith) (omega arith)
+      ∙ ap (λ (t : Tree). plug p (branch (exchanged x y X) t)) (stays S (omega arith) (omega arith))
+
+  -- at the feet of a fork, where each occurs once in the tree
+  count-two : (f : Fork) (a b z : Leaf) → count z (leaves (plug-two f (tip a) (tip b)))
+      ≡ count z (a ∷ []) + around z (f .left) + (count z (b ∷ []) + around z (f .right)) + around z (f .above)
+  count-two f a b z =
+      omega (
+        arith,
+        count-plug z (f .above) (branch (plug (f .left) (tip a)) (plug (f .right) (tip b))),
+        count-append z (leaves (plug (f .left) (tip a))) (leaves (plug (f .right) (tip b))),
+        count-plug z (f .left) (tip a),
+        count-plug z (f .right) (tip b),
+      )
+
+  exchanged-two : (f : Fork) (a b : Leaf) → (0 < count x (a ∷ []) + count x (b ∷ [])) → (0 < count y (a ∷ []) + count y (b ∷ []))
+      → count x (leaves (plug-two f (tip a) (tip b))) ≤ 1 → count y (leaves (plug-two f (tip a) (tip b))) ≤ 1
+      → exchanged x y (plug-two f (tip a) (tip b)) ≡ plug-two f (tip (theOther x y a)) (tip (theOther x y b))
+  exchanged-two f a b hx hy ox oy =
+      let cx = count-two f a b x in
+      let cy = count-two f a b y in
+      exchanged-plug (f .above) (branch (plug (f .left) (tip a)) (plug (f .right) (tip b))) (omega arith) (omega arith)
+      ∙ ap₂ (λ (t u : Tree). plug (f .above) (branch t u)) (exchanged-plug (f .left) (tip a) (omega arith) (omega arith))
+      (exchanged-plug (f .right) (tip b) (omega arith) (omega arith))
+
+  to-other : theOther x y x ≡ y
+  to-other = by-test (Leaf-discrete x x)
+    where
+      by-test : (d : Dec (x ≡ x)) → ifYes d y (ifYes (Leaf-discrete x y) x x) ≡ y
+      by-test (yes e) = refl
+      by-test (no n) = absurd (n refl)
+
+  from-other : theOther x y y ≡ x
+  from-other = by-test (Leaf-discrete y x) (Leaf-discrete y y)
+    where
+      by-test : (d : Dec (y ≡ x)) (c : Dec (y ≡ y)) → ifYes d y (ifYes c x y) ≡ x
+      by-test (yes e) c = e
+      by-test (no n) (yes e) = refl
+      by-test (no n) (no m) = absurd (m refl)
+
+  pub exchanged-fork : (f : Fork) (T : Tree) → Forks f x y T → count x (leaves T) ≤ 1 → count y (leaves T) ≤ 1
+      → exchanged x y T ≡ plug-two f (tip (leftOne f y x)) (tip (rightOne f y x))
+  exchanged-fork f T e ox oy = by-side (f .crossed) e
+    where
+      by-side : (c : Bool) → plug-two f (tip (pick c y x)) (tip (pick c x y)) ≡ T
+          → exchanged x y T ≡ plug-two f (tip (pick c x y)) (tip (pick c y x))
+      by-side true e =
+          ap (exchanged x y) (sym e)
+          ∙ exchanged-two f y x (omega (arith, count-head x x [] refl)) (omega (arith, count-head y y [] refl)) (rw e ox) (rw e oy)
+          ∙ ap₂ (λ (a b : Leaf). plug-two f (tip a) (tip b)) from-other to-other
+      by-side false e =
+          ap (exchanged x y) (sym e)
+          ∙ exchanged-two f x y (omega (arith, count-head x x [] refl)) (omega (arith, count-head y y [] refl)) (rw e ox) (rw e oy)
+          ∙ ap₂ (λ (a b : Leaf). plug-two f (tip a) (tip b)) to-other from-other
