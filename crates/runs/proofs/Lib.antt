@@ -1,4 +1,6 @@
 pub mod Accepted
+pub mod Adopts
+pub mod Asks
 pub mod Book
 pub mod Climbs
 pub mod Effects
@@ -11,5 +13,7 @@ pub mod Reach
 pub mod Rings
 pub mod Runs
 pub mod Safe
+pub mod SetClear
 pub mod Sizes
+pub mod Standing
 pub mod Widths

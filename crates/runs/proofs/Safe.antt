@@ -26,7 +26,7 @@ use Rattle.rings.proofs.Records.{Known, known-empty, known-recorded}
 use Rattle.rings.proofs.Bridge.{hash-is, known-by}
 use Rattle.rings.proofs.ListKinds as L
 use Rattle.rings.proofs.InPaper as P
-use Rattle.runs.specs.Run.{earliest, World, meaning, landed, after}
+use Rattle.runs.specs.Run.{Items, earliest, World, meaning, landed, after}
 use Rattle.runs.specs.Safety.{TrueFinding, TrueAnswer, LegalEffect}
 use Rattle.runs.proofs.Book.{Book, book-more, book-add}
 use Rattle.runs.proofs.Effects as E
@@ -69,6 +69,18 @@ module _ (D : List ℕ → Dig) (D32 : (l : List ℕ) → length (D l) ≡ 32) w
         book = rw (e, append-nil (w .book)) (book-more D (w .book) (more a w) (v .book));
         counter = rw e (ap (λ (x : _). x .0) c ∙ v .counter);
       }
+
+  -- what an ask tells is true
+  pub true-finding : (F : List Str) (l : Items) (q A A′ : ℕ) (r : Record) → malformed r ≡ false → either (eqb q A) (inGap q A A′) ≡ true
+      → P.Found D D32 F A A′ r l → TrueFinding D q (findingOf q A A′ r) l
+  unfolding findingOf malformed
+  true-finding F l q A A′ r ok near f = by-tests (eqb q A) (blank r) refl refl near
+    where
+      by-tests : (b c : Bool) → eqb q A ≡ b → blank r ≡ c → either b (inGap q A A′) ≡ true
+          → TrueFinding D q (pick b (pick c (Listed (record { 0 = A })) (Recorded (record { 0 = A }) r)) (Gap (record { 0 = A }) (record { 0 = A′ }))) l
+      by-tests true true e e′ n = (eqb-true q A e, subst (λ (x : Record). List·Memᴰ (item A x) l) (blank-empty r e′ ok) (f .0))
+      by-tests true false e e′ n = (eqb-true q A e, e′, f .0)
+      by-tests false c e e′ n = (n, f .1 q n, (r, f .0, f .2))
 
   -- ── an accepted line ──
 
@@ -143,18 +155,6 @@ module _ (D : List ℕ → Dig) (D32 : (l : List ℕ) → length (D l) ≡ 32) w
           rw e₃ (old, p .was),
         )
 
-      -- what an ask tells is true
-      true-finding : (q A A′ : ℕ) (r : Record) → malformed r ≡ false → either (eqb q A) (inGap q A A′) ≡ true
-          → P.Found D D32 (w .formed) A A′ r (w .items) → TrueFinding D q (findingOf q A A′ r) (w .items)
-      unfolding findingOf malformed
-      true-finding q A A′ r ok near f = by-tests (eqb q A) (blank r) refl refl near
-        where
-          by-tests : (b c : Bool) → eqb q A ≡ b → blank r ≡ c → either b (inGap q A A′) ≡ true
-              → TrueFinding D q (pick b (pick c (Listed (record { 0 = A })) (Recorded (record { 0 = A }) r)) (Gap (record { 0 = A }) (record { 0 = A′ }))) (w .items)
-          by-tests true true e e′ n = (eqb-true q A e, subst (λ (x : Record). List·Memᴰ (item A x) (w .items)) (blank-empty r e′ ok) (f .0))
-          by-tests true false e e′ n = (eqb-true q A e, e′, f .0)
-          by-tests false c e e′ n = (n, f .1 q n, (r, f .0, f .2))
-
       pub accepted : (q : Request) → Given D D32 w (G q) q → Comes q
       accepted (Q.path x x′ sides l) g =
           let q = Q.path x x′ sides l in
@@ -212,7 +212,7 @@ module _ (D : List ℕ → Dig) (D32 : (l : List ℕ) → length (D l) ≡ 32) w
         let h = g .none-fails .1 .1 .1 .1
         let p = Q.ask q A A′ r y m
         f ← E.ask D D32 w (G p) (backed p) (v .tree) (v .root) (standing p) q A A′ r y m g
-        inr (kept-core w (a p) refl refl refl v, true-finding q A A′ r (h .0) (opposite-false _ (h .1 .0)) f, tt)
+        inr (kept-core w (a p) refl refl refl v, true-finding (w .formed) (w .items) q A A′ r (h .0) (opposite-false _ (h .1 .0)) f, tt)
       accepted (Q.askNone q) g = do
         let p = Q.askNone q
         f ← E.ask-none D D32 w (G p) (backed p) (v .tree) (v .root) (standing p) q g

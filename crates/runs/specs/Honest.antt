@@ -169,16 +169,19 @@ module _ (D : List ℕ → Dig) (s : Registers) where
   -- ── questions ──
 
   -- q's own leaf or the one whose gap holds q: U1(x,y,x,y), witnessed
-  abbrev pub askLines : (q : ℕ) → Tree → Items → List Request
-  askLines q T [] = askNone q ∷ []
-  askLines q T (i ∷ l) =
+  abbrev pub leafLines : (q : ℕ) → Tree → Items → List Request
+  leafLines q T l =
       let z = found (tellsOf q) T in
-      let r = recordOf (itemOf z) (i ∷ l) in
+      let r = recordOf (itemOf z) l in
       let x = digest D (leafOf D (itemOf z) (nextOf z) r) in
       let p = wayTo (tellsOf q) T in
       let y = rise D p x in
       onePlace p (record { was = x; becomes = x })
       ++ (witness x y (note (u1 x y x y)) ∷ ask q (itemOf z) (nextOf z) r y (note (v1 x y)) ∷ [])
+
+  abbrev pub askLines : (q : ℕ) → Tree → Items → List Request
+  askLines q T [] = askNone q ∷ []
+  askLines q T (i ∷ l) = leafLines q T (i ∷ l)
 
   -- ── all of them ──
 

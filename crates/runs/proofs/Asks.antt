@@ -1,0 +1,161 @@
+-- Questions, honestly: U1(x,y,x,y) from the leaf that tells of q up to the root, witnessed, and the ask; or the ask of none.
+-- The reply is true of the list.
+use mathlib.Core.Path.{_≡_, refl, sym, ap, subst, _∙_}
+use mathlib.Core.Bool.{Bool, true, false}
+use mathlib.Core.List.{List, [], _∷_, _++_, append-assoc}
+use mathlib.Core.Logic.{_⊎_, inl, inr}
+use Prim.Native.Nat.{ℕ, _<_}
+use native.Mathlib.Omega.{arith}
+use borrow.Author.Tests.{eq-eqb}
+use lib.Dec.{eqb}
+use lib.ListN.{length}
+use Rattle.seqs.specs.Choose.{either, either-yes}
+use Rattle.paper.specs.declared.Record.{Record}
+use Rattle.paper.specs.declared.Registers.{Registers}
+use Rattle.paper.specs.Strings.{Dig, nought, v1, u1, Memo, enc, memo, digest, malformed, inGap, recordHash, H}
+use Rattle.paper.specs.Requests as Q
+use Rattle.paper.specs.Requests.{Request}
+use Rattle.paper.specs.Refusals.{leafOf, needs}
+use Rattle.paper.specs.Answers.{findingOf}
+use Rattle.paper.specs.Module.{Told}
+use Rattle.rings.specs.Trees.{Leaf, points, Tree, empty, tip, branch, leaves, hashOf, count}
+use Rattle.rings.specs.Lists.{Item, item, Listed, Unlisted, ring}
+use Rattle.rings.proofs.Counting.{one-self, count-nil, count-cons, count-append, occurs}
+use Rattle.rings.proofs.Gaps.{gap-holds, gap-tells}
+use Rattle.rings.proofs.Items.{listed?}
+use Rattle.rings.proofs.Ring.{gap-free}
+use Rattle.rings.proofs.Find.{item-leaf, spot}
+use Rattle.runs.specs.Run.{Items, last, World, toldAt, next}
+use Rattle.runs.specs.Frames.{turnOf, turnsOf}
+use Rattle.runs.specs.Ways.{itemOf, nextOf, hashIn, isOf, gapHolds, tellsOf, has, found, wayTo, rise}
+use Rattle.runs.specs.Honest.{recordOf, Edit, note, onePlace, leafLines, askLines}
+use Rattle.runs.specs.Liveness.{lastReply, TrueReply, finding, nothing-listed}
+use Rattle.runs.proofs.Accepted.{NoneFails}
+use Rattle.runs.proofs.Widths.{Small}
+use Rattle.runs.proofs.Safe.{true-finding}
+use Rattle.runs.proofs.Frames.{IsDigest, Sendable}
+use Rattle.runs.proofs.Climbs.{rise-digest}
+use Rattle.runs.proofs.Sizes.{record-is, Decent}
+use Rattle.runs.proofs.Fed.{at, run, Fair, run-append, told-is, fair-one, lands, note-fits, Got, then, Brings, after-got}
+use Rattle.runs.proofs.Reach.{is-open, one-place, witness-line}
+use Rattle.runs.proofs.Adopts.{not-zero, at-root}
+use Rattle.runs.proofs.Standing.{Ground, Spotted, spot-by, spotted, item-digest}
+
+module _ (D : List ℕ → Dig) where
+  -- the reply to the last of some requests
+  last-is : (w : World) (a : List Request) (q : Request) → lastReply D w (turnsOf (a ++ (q ∷ []))) ≡ toldAt D (run D w a) (turnOf q) .says
+  last-is w [] q = refl
+  last-is w (p ∷ []) q = refl
+  last-is w (p ∷ r ∷ a) q = last-is (next D last w (turnOf p)) (r ∷ a) q
+
+  -- a tree without leaves hashes to 0
+  pub none-hash : (T : Tree) → ((x : Leaf) → count x (leaves T) ≡ 0) → hashOf D T ≡ nought
+  unfolding H
+  none-hash empty f = refl
+  none-hash (tip x) f = absurd (omega (arith, f x, count-cons x x [], one-self x))
+  none-hash (branch l r) f =
+      let p = none-hash l (λ x. omega (arith, f x, count-append x (leaves l) (leaves r))) in
+      let q = none-hash r (λ x. omega (arith, f x, count-append x (leaves l) (leaves r))) in
+      (λ i. H D (p i) (q i))
+
+module _ (D : List ℕ → Dig) (DD : (l : List ℕ) → IsDigest (D l)) (w : World) (T : Tree) (g : Ground D w T) where
+  abbrev s : Registers
+  s = w .registers
+
+  -- ── a leaf that tells of q ──
+
+  -- q's own leaf, or the one whose gap holds q
+  tells : (q : ℕ) → 0 < q → (a : ℕ) (r : Record) (l : Items) → w .items ≡ item a r ∷ l → has (tellsOf q) T ≡ true
+  tells q h a r l e = by-list (listed? q (w .items))
+    where
+      by-list : Unlisted q (w .items) ⊎ ((t : Record) × Listed q t (w .items)) → has (tellsOf q) T ≡ true
+      by-list (inr t) =
+          let i = item-leaf (recordHash D) q (t .0) (w .items) (g .ascending) (t .1) in
+          spot-by D DD w T g (tellsOf q) (points q (i .0) (recordHash D (t .0))) (rw (eq-eqb q q refl) refl) (i .2)
+      by-list (inl u) =
+          let i = spot (recordHash D) q a r l h (rw e at (g .ascending)) (rw e at u) in
+          spot-by D DD w T g (tellsOf q) (points (i .a) (i .b) (i .w)) (rw (gap-tells (i .gap), either-yes) refl) (rw e (i .on))
+
+  -- ── what a question comes to ──
+
+  pub record Answers (q : ℕ) (qs : List Request) : Type 0 where
+    pub fair : Fair D w qs
+    pub registers-are : run D w qs .registers ≡ s
+    pub items-are : run D w qs .items ≡ w .items
+    pub reply : TrueReply D q (w .items) (lastReply D w (turnsOf qs))
+
+  -- behind lines that change nothing
+  answers-last : {a : List Request} {t : Memo} (q : ℕ) (h : Got D w a t) (p : Request) (ok : Sendable p) (n : NoneFails (needs D s p))
+      → Fair D (at w (h .formed) (h .book)) (p ∷ []) → run D (at w (h .formed) (h .book)) (p ∷ []) .registers ≡ s
+      → run D (at w (h .formed) (h .book)) (p ∷ []) .items ≡ w .items
+      → TrueReply D q (w .items) (toldAt D (at w (h .formed) (h .book)) (turnOf p) .says) → Answers q (a ++ (p ∷ []))
+  answers-last {a} q h p ok n f e₁ e₂ t =
+      let b : Brings D (at w (h .formed) (h .book)) (p ∷ []) s (w .items) = record { fair = f; registers-are = e₁; items-are = e₂ } in
+      let c = after-got D h b in
+      record {
+        fair = c .fair;
+        registers-are = c .registers-are;
+        items-are = c .items-are;
+        reply =
+            subst (TrueReply D q (w .items))
+            (sym (last-is D w a p ∙ ap (λ (v : World). toldAt D v (turnOf p) .says) (h .ends))) t;
+      }
+
+  module _ (D32 : (l : List ℕ) → length (D l) ≡ 32) (q : ℕ) (small : Small q) (positive : 0 < q) where
+    by-leaf : has (tellsOf q) T ≡ true → Answers q (leafLines D s q T (w .items))
+    by-leaf have =
+        let t = spotted D DD w T g (tellsOf q) have in
+        let z = found (tellsOf q) T in
+        let A = itemOf z in
+        let A′ = nextOf z in
+        let r = recordOf A (w .items) in
+        let k : r ≡ t .held = record-is 0 A (t .held) (w .items) (g .ascending) (t .listed) in
+        let d : Decent A r = rw k (g .decent A (t .held) (t .listed)) in
+        let x = digest D (leafOf D A A′ r) in
+        let p = wayTo (tellsOf q) T in
+        let y = rise D p x in
+        let e : y ≡ s .root = ap (rise D p) (item-digest D DD w T g A (t .held) (t .listed) (tellsOf q) t refl) ∙ t .to-root in
+        let hy = rise-digest D DD p x (DD _) in
+        let h₁ = one-place D DD w (g .opened) (w .formed) (w .book) p (record { was = x; becomes = x }) (record { old = DD _; new = DD _ }) in
+        let h₂ = witness-line D DD w (g .opened) (h₁ .formed) (h₁ .book) x y (DD _) hy (h₁ .got) in
+        let h = then D h₁ h₂ in
+        let m = note D s (v1 x y) in
+        let a = Q.ask q A A′ r y m in
+        let v = at w (h .formed) (h .book) in
+        let ok : Sendable a = (small, d .small, t .next-small, d .small-record, (hy, (DD (enc (memo (v1 x y) (s .secret))), tt))) in
+        let n : NoneFails (needs D s a) = (
+          is-open D DD w (g .opened),
+          (not-zero q positive, (not-zero A (d .positive), (not-zero A′ (t .next-positive), (d .sound, (rw (t .passes) refl, (note-fits D (s .secret) (v1 x y) [], (at-root y (s .root) e, tt))))))),
+        ) in
+        let end = lands D v a ok n in
+        let on : 0 < count (points A A′ (recordHash D r)) (ring (recordHash D) (w .items)) =
+        subst (λ (u : Leaf). 0 < count u (ring (recordHash D) (w .items))) (at-z z (recordHash D r) (ap (recordHash D) k ∙ t .hash-is)) (t .in-ring) in
+        let listed : Listed A r (w .items) = subst (λ (u : Record). Listed A u (w .items)) (sym k) (t .listed) in
+        let true-of = true-finding D D32 (w .formed) (w .items) q A A′ r (d .sound) (t .passes)
+        (listed, (λ c j. gap-free (recordHash D) c A A′ (recordHash D r) (w .items) (g .ascending) (gap-holds c A A′ j) on), occurs _ _ on) in
+        subst (Answers q) (append-assoc (onePlace D s p (record { was = x; becomes = x })) (Q.witness x y (note D s (u1 x y x y)) ∷ []) (a ∷ []))
+        (answers-last q h a ok n (fair-one D v a ok n (h .got, tt) [] tt) (ap (λ (u : World). u .registers) end)
+        (ap (λ (u : World). u .items) end) (finding (findingOf q A A′ r) true-of (ap (λ (u : Told). u .says) (told-is D v a ok n))))
+      where
+        at-z : (z : Leaf) (v : Dig) → v ≡ hashIn z → z ≡ points (itemOf z) (nextOf z) v
+        at-z (points A B u) v e = ap (points A B) (sym e)
+
+    none-at-all : w .items ≡ [] → Answers q (Q.askNone q ∷ [])
+    none-at-all e =
+        let a = Q.askNone q in
+        let empty-root : nought ≡ s .root = sym (none-hash D T (λ x. g .holds x ∙ rw e (count-nil x))) ∙ g .root in
+        let n : NoneFails (needs D s a) = (is-open D DD w (g .opened), (not-zero q positive, (at-root nought (s .root) empty-root, tt))) in
+        let end = lands D w a small n in
+        record {
+          fair = fair-one D w a small n tt [] tt;
+          registers-are = ap (λ (u : World). u .registers) end;
+          items-are = ap (λ (u : World). u .items) end;
+          reply = nothing-listed e (ap (λ (u : Told). u .says) (told-is D w a small n));
+        }
+
+    pub ask-answers : Answers q (askLines D s q T (w .items))
+    ask-answers = by-items (w .items) refl
+      where
+        by-items : (l : Items) → w .items ≡ l → Answers q (askLines D s q T l)
+        by-items [] e = none-at-all e
+        by-items (item b r ∷ l) e = subst (λ (m : Items). Answers q (leafLines D s q T m)) e (by-leaf (tells q positive b r l e))

@@ -1,0 +1,97 @@
+-- A world and a tree that stands for it: what is known of the leaf that a test finds. And set and clear, which change one leaf.
+use mathlib.Core.Path.{_≡_, refl, sym, ap, subst, _∙_}
+use mathlib.Core.Bool.{Bool, true, false}
+use mathlib.Core.List.{List, [], _∷_, _++_}
+use Prim.Native.Nat.{ℕ, _+_, _<_}
+use native.Mathlib.Omega.{arith}
+use borrow.Author.Tests.{eq-eqb, ne-eqb, eqb-true}
+use lib.Dec.{eqb}
+use Rattle.paper.specs.declared.Record.{Record}
+use Rattle.paper.specs.declared.Registers.{Registers}
+use Rattle.paper.specs.Strings.{Dig, Str, leaf, enc, memo, digest, blank, recordHash}
+use Rattle.paper.specs.Requests as Q
+use Rattle.paper.specs.Requests.{Request}
+use Rattle.paper.specs.Refusals.{top, nextRecord, clearedRecord, leafOf, needs}
+use Rattle.paper.specs.Answers.{raised}
+use Rattle.rings.specs.Trees.{Leaf, points, Tree, tip, leaves, hashOf, count, Permuted}
+use Rattle.rings.specs.Lists.{Ascending, Listed, putRecord, ring}
+use Rattle.rings.proofs.Find.{item-leaf}
+use Rattle.runs.specs.Run.{Issue, World}
+use Rattle.runs.specs.Ways.{itemOf, nextOf, hashIn, isOf, has, found, wayTo, rise}
+use Rattle.runs.specs.Honest.{recordOf, Edit, note, sayOne, onePlace, rewritten, setLines, clearLines}
+use Rattle.runs.proofs.Accepted.{NoneFails}
+use Rattle.runs.proofs.Widths.{Small}
+use Rattle.runs.proofs.Frames.{IsDigest, Sendable}
+use Rattle.runs.proofs.Climbs.{record-digest, rise-digest}
+use Rattle.runs.proofs.Places.{plug, rise-plug, has-it, found-passes, found-occurs, located}
+use Rattle.runs.proofs.Rings.{leaf-held, leaf-next}
+use Rattle.runs.proofs.Sizes.{record-is, Decent, AllDecent}
+use Rattle.runs.proofs.Fed.{at, fair-one, lands, note-fits, Brings, after-got}
+use Rattle.runs.proofs.Reach.{is-open, one-place}
+use Rattle.runs.proofs.Adopts.{not-zero, at-root}
+
+module _ (D : List ℕ → Dig) where
+  -- the module is open, the tree stands for the list, and what is listed fits lines
+  pub record Ground (w : World) (T : Tree) : Type 0 where
+    pub opened : w .registers .opened ≡ true
+    pub root : hashOf D T ≡ w .registers .root
+    pub ascending : Ascending 0 (w .items)
+    pub holds : Permuted (leaves T) (ring (recordHash D) (w .items))
+    pub decent : AllDecent (w .items)
+
+  pub leaf-digest : (x : Leaf) → digest D (leaf (itemOf x) (nextOf x) (hashIn x)) ≡ hashOf D (tip x)
+  leaf-digest (points A B v) = refl
+
+module _ (D : List ℕ → Dig) (DD : (l : List ℕ) → IsDigest (D l)) (w : World) (T : Tree) (g : Ground D w T) where
+  abbrev s : Registers
+  s = w .registers
+
+  -- ── the leaf that a test finds ──
+
+  pub record Spotted (p : Leaf → Bool) : Type 0 where
+    pub passes : p (found p T) ≡ true
+    pub in-ring : 0 < count (found p T) (ring (recordHash D) (w .items))
+    pub held : Record
+    pub listed : Listed (itemOf (found p T)) held (w .items)
+    pub hash-is : recordHash D held ≡ hashIn (found p T)
+    pub next-positive : 0 < nextOf (found p T)
+    pub next-small : Small (nextOf (found p T))
+    pub to-root : rise D (wayTo p T) (hashOf D (tip (found p T))) ≡ s .root
+
+  -- where some leaf of the ring passes
+  pub spot-by : (p : Leaf → Bool) (x : Leaf) → p x ≡ true → 0 < count x (ring (recordHash D) (w .items)) → has p T ≡ true
+  spot-by p x e m = has-it p x T e (omega (arith, g .holds x))
+
+  pub spotted : (p : Leaf → Bool) → has p T ≡ true → Spotted p
+  spotted p h =
+      let x = found p T in
+      let m : 0 < count x (ring (recordHash D) (w .items)) = omega (arith, g .holds x, found-occurs p T h) in
+      let i = leaf-held (recordHash D) x (w .items) m in
+      let n = leaf-next (recordHash D) x (w .items) m in
+      let k = g .decent (nextOf x) (n .0) (n .1) in
+      record {
+        passes = found-passes p T h;
+        in-ring = m;
+        held = i .0;
+        listed = i .1;
+        hash-is = i .2;
+        next-positive = k .positive;
+        next-small = k .small;
+        to-root = rise-plug D (wayTo p T) (tip x) ∙ ap (hashOf D) (located p T h) ∙ g .root;
+      }
+
+  -- the leaf of a listed item
+  pub of-item : (A : ℕ) (r : Record) → Listed A r (w .items) → has (isOf A) T ≡ true
+  of-item A r m =
+      let i = item-leaf (recordHash D) A r (w .items) (g .ascending) m in
+      spot-by (isOf A) (points A (i .0) (recordHash D r)) (eq-eqb A A refl) (i .2)
+
+  -- it holds the item's record
+  pub item-digest : (A : ℕ) (r : Record) → Listed A r (w .items) → (p : Leaf → Bool) (t : Spotted p) → A ≡ itemOf (found p T)
+      → digest D (leafOf D A (nextOf (found p T)) (recordOf A (w .items))) ≡ hashOf D (tip (found p T))
+  item-digest A r m p t e =
+      let x = found p T in
+      let k : recordOf A (w .items) ≡ t .held =
+      record-is 0 A (t .held) (w .items) (g .ascending) (subst (λ (a : ℕ). Listed a (t .held) (w .items)) (sym e) (t .listed)) in
+      let h : recordHash D (recordOf A (w .items)) ≡ hashIn x = ap (recordHash D) k ∙ t .hash-is in
+      (λ i. digest D (leaf (e i) (nextOf x) (h i))) ∙ leaf-digest D x
