@@ -156,7 +156,8 @@ module _ (D : List ℕ → Dig) (DD : (l : List ℕ) → IsDigest (D l)) where
     gone-is : (A B′ : ℕ) → IsEdit (gone D s A B′)
     gone-is A B′ = record { old = DD _; new = nought-digest }
 
-    sides-are : (f : Fork) (a b : Edit) → IsEdit a → IsEdit b → IsEdit (leftOne f a b) × IsEdit (rightOne f a b)
+    -- of two edits at the feet of a fork
+    pub sides-are : (f : Fork) (a b : Edit) → IsEdit a → IsEdit b → IsEdit (leftOne f a b) × IsEdit (rightOne f a b)
     sides-are f a b h k = by-side (f .crossed)
       where
         by-side : (c : Bool) → IsEdit (pick c b a) × IsEdit (pick c a b)

@@ -8,6 +8,7 @@ pub mod Fed
 pub mod Formed
 pub mod Frames
 pub mod Lines
+pub mod Moves
 pub mod Places
 pub mod Reach
 pub mod Rings
