@@ -11,7 +11,6 @@ use Rattle.paper.specs.declared.Registers.{Registers}
 use Rattle.paper.specs.Strings.{Dig, Str}
 use Rattle.paper.specs.Requests.{Request}
 use Rattle.paper.specs.Refusals.{Check, those, anyFails, formsAll, applies, formedAt, passed, judge}
-use Rattle.paper.specs.Answers.{answer}
 use Rattle.paper.specs.Module.{Told, told}
 use Rattle.paper.proofs.Verdicts.{firstOf, number-is, Passed}
 

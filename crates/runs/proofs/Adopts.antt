@@ -17,7 +17,7 @@ use Rattle.paper.specs.Refusals.{noneFits, placeSays, needs}
 use Rattle.paper.specs.Answers as Does
 use Rattle.paper.specs.Answers.{Change, rooted, issue, answer}
 use Rattle.rings.specs.Changes.{Step, insertion, removal, doSteps, reversed}
-use Rattle.runs.specs.Run.{last, Issue, isIssued, standsFor, meaning, World, next}
+use Rattle.runs.specs.Run.{last, Issue, meaning, World, next}
 use Rattle.runs.specs.Endings.{carried}
 use Rattle.runs.specs.Frames.{turnOf}
 use Rattle.runs.specs.Ways.{Way, Fork, leftOne, rightOne}

@@ -1,25 +1,24 @@
 -- Questions, honestly: U1(x,y,x,y) from the leaf that tells of q up to the root, witnessed, and the ask; or the ask of none.
 -- The reply is true of the list.
 use mathlib.Core.Path.{_≡_, refl, sym, ap, subst, _∙_}
-use mathlib.Core.Bool.{Bool, true, false}
+use mathlib.Core.Bool.{true}
 use mathlib.Core.List.{List, [], _∷_, _++_, append-assoc}
 use mathlib.Core.Logic.{_⊎_, inl, inr}
 use Prim.Native.Nat.{ℕ, _<_}
 use native.Mathlib.Omega.{arith}
 use borrow.Author.Tests.{eq-eqb}
-use lib.Dec.{eqb}
 use lib.ListN.{length}
-use Rattle.seqs.specs.Choose.{either, either-yes}
+use Rattle.seqs.specs.Choose.{either-yes}
 use Rattle.paper.specs.declared.Record.{Record}
 use Rattle.paper.specs.declared.Registers.{Registers}
-use Rattle.paper.specs.Strings.{Dig, nought, v1, u1, Memo, enc, memo, digest, malformed, inGap, recordHash, H}
+use Rattle.paper.specs.Strings.{Dig, nought, v1, u1, Memo, enc, memo, digest, recordHash, H}
 use Rattle.paper.specs.Requests as Q
 use Rattle.paper.specs.Requests.{Request}
 use Rattle.paper.specs.Refusals.{leafOf, needs}
 use Rattle.paper.specs.Answers.{findingOf}
 use Rattle.paper.specs.Module.{Told}
 use Rattle.rings.specs.Trees.{Leaf, points, Tree, empty, tip, branch, leaves, hashOf, count}
-use Rattle.rings.specs.Lists.{Item, item, Listed, Unlisted, ring}
+use Rattle.rings.specs.Lists.{item, Listed, Unlisted, ring}
 use Rattle.rings.proofs.Counting.{one-self, count-nil, count-cons, count-append, occurs}
 use Rattle.rings.proofs.Gaps.{gap-holds, gap-tells}
 use Rattle.rings.proofs.Items.{listed?}
@@ -27,8 +26,8 @@ use Rattle.rings.proofs.Ring.{gap-free}
 use Rattle.rings.proofs.Find.{item-leaf, spot}
 use Rattle.runs.specs.Run.{Items, last, World, toldAt, next}
 use Rattle.runs.specs.Frames.{turnOf, turnsOf}
-use Rattle.runs.specs.Ways.{itemOf, nextOf, hashIn, isOf, gapHolds, tellsOf, has, found, wayTo, rise}
-use Rattle.runs.specs.Honest.{recordOf, Edit, note, onePlace, leafLines, askLines}
+use Rattle.runs.specs.Ways.{itemOf, nextOf, hashIn, tellsOf, has, found, wayTo, rise}
+use Rattle.runs.specs.Honest.{recordOf, note, onePlace, leafLines, askLines}
 use Rattle.runs.specs.Liveness.{lastReply, TrueReply, finding, nothing-listed}
 use Rattle.runs.proofs.Accepted.{NoneFails}
 use Rattle.runs.proofs.Widths.{Small}
@@ -36,10 +35,10 @@ use Rattle.runs.proofs.Safe.{true-finding}
 use Rattle.runs.proofs.Frames.{IsDigest, Sendable}
 use Rattle.runs.proofs.Climbs.{rise-digest}
 use Rattle.runs.proofs.Sizes.{record-is, Decent}
-use Rattle.runs.proofs.Fed.{at, run, Fair, run-append, told-is, fair-one, lands, note-fits, Got, then, Brings, after-got}
+use Rattle.runs.proofs.Fed.{at, run, Fair, told-is, fair-one, lands, note-fits, Got, then, Brings, after-got}
 use Rattle.runs.proofs.Reach.{is-open, one-place, witness-line}
 use Rattle.runs.proofs.Adopts.{not-zero, at-root}
-use Rattle.runs.proofs.Standing.{Ground, Spotted, spot-by, spotted, item-digest}
+use Rattle.runs.proofs.Standing.{Ground, spot-by, spotted, item-digest}
 
 module _ (D : List ℕ → Dig) where
   -- the reply to the last of some requests

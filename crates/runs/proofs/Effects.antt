@@ -27,7 +27,7 @@ use Rattle.rings.proofs.TreeKinds as T
 use Rattle.rings.proofs.RingKinds as R
 use Rattle.rings.proofs.ListKinds as L
 use Rattle.rings.proofs.InPaper as P
-use Rattle.runs.specs.Run.{World, standsFor, isIssued, meaning}
+use Rattle.runs.specs.Run.{World, standsFor, isIssued}
 use Rattle.runs.specs.Endings.{carried}
 use Rattle.runs.proofs.Accepted.{NoneFails}
 use Rattle.runs.proofs.Widths.{Wide}

@@ -4,15 +4,14 @@ use mathlib.Core.Path.{_≡_, refl, sym, ap, subst, _∙_}
 use mathlib.Core.Bool.{Bool, true, false}
 use mathlib.Core.List.{List, [], _∷_, _++_}
 use Prim.Native.Nat.{ℕ, _+_}
-use lib.ListN.{length}
-use Rattle.seqs.specs.Choose.{pick, either, either-yes}
+use Rattle.seqs.specs.Choose.{pick, either-yes}
 use Rattle.seqs.specs.Bytes.{same, same-refl}
 use Rattle.hex.specs.Hex.{bytesOf, digitsOf}
 use Rattle.paper.specs.declared.Registers.{Registers}
 use Rattle.paper.specs.Strings.{Dig, Memo, Str, memo, digest}
 use Rattle.paper.specs.Requests.{Request, kindOf, known, fits, requestOf}
 use Rattle.paper.specs.Refusals.{replyRoom, noneFits, needs, passed, judge}
-use Rattle.paper.specs.Answers.{Change, Effect, issues, Answer, issue, answer}
+use Rattle.paper.specs.Answers.{Change, Answer, issue, answer}
 use Rattle.paper.specs.Module.{Told, told}
 use Rattle.rings.specs.Changes.{Step}
 use Rattle.runs.specs.Run.{Items, last, Issue, standsFor, isIssued, meaning, World, toldAt, landed, next}
@@ -82,13 +81,13 @@ module _ (D : List ℕ → Dig) where
         let fs = formedAll late [] (needs D s q) in (
           ((memo t (s .secret) ∷ before) ++ fs) ++ w .formed,
           lands n
-          ∙ ap (λ (a : Answer). landed D last w (record {
-            refusal = 0;
-            says = (0x80 + written q .kind) ∷ a .lists;
-            after = a .after;
-            formed = a .forms ++ fs;
-            effect = a .effect;
-          })) e,
+              ∙ ap (λ (a : Answer). landed D last w (record {
+                refusal = 0;
+                says = (0x80 + written q .kind) ∷ a .lists;
+                after = a .after;
+                formed = a .forms ++ fs;
+                effect = a .effect;
+              })) e,
         )
 
   -- ── memoranda ──

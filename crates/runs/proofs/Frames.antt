@@ -2,23 +2,21 @@
 -- known kind, a frame that fits, and the frame of that very request. Shown once for whatever a row of the table carries,
 -- then row by row.
 use mathlib.Core.Path.{_≡_, refl, sym, ap, subst, _∙_}
-use mathlib.Core.Bool.{Bool, true, false}
+use mathlib.Core.Bool.{true, false}
 use mathlib.Core.List.{List, [], _∷_, _++_, append-nil, append-assoc}
-use Prim.Native.Nat.{ℕ, zero, suc, _+_, _-_, _*_, _/_, _%_, _^_, _≤_, _<_}
+use Prim.Native.Nat.{ℕ, zero, suc, _+_, _*_, _%_, _^_, _≤_, _<_}
 use native.Mathlib.Nat.{lt-of-lt-of-le, mod-lt, div-eq-of-lt, pow-le-pow-right}
 use native.Mathlib.Omega.{arith}
 use borrow.Author.Tests.{eq-eqb, ne-eqb, le-leb, le-ltb}
-use lib.Dec.{eqb, leb, ltb}
 use lib.ListN.{length, getD, take, drop, length-append}
 use lib.Seq.{take-at, drop-at}
-use Rattle.seqs.specs.Choose.{both, both-true}
 use Rattle.seqs.specs.Bytes.{Bytes, be64, numberOf, number-be64, be64-length}
 use Rattle.hex.specs.Hex.{bytesOf, digitsOf}
 use Rattle.hex.proofs.Laws.{bytes-of-digits, digits-all, digits-length}
 use Rattle.paper.specs.declared.Record.{Record}
 use Rattle.paper.specs.Strings.{Dig}
 use Rattle.paper.specs.Requests as Q
-use Rattle.paper.specs.Requests.{Request, Carried, aNumber, aDigest, aRecord, aPath, countIn, sidesIn, digestsIn, siblingsIn, recordIn, Kind, kinds, kindOf, known, rowOf, takes, takesAll, part, sound, soundAll, fits, requestOf}
+use Rattle.paper.specs.Requests.{Request, Carried, aNumber, aDigest, aRecord, aPath, sidesIn, digestsIn, siblingsIn, recordIn, Kind, kinds, kindOf, known, rowOf, takes, takesAll, part, sound, soundAll, fits, requestOf}
 use Rattle.paper.specs.Refusals.{isHex}
 use Rattle.runs.specs.Frames.{together, recordBytes, pathBytes, written, frameOf}
 use Rattle.runs.proofs.Widths.{Is32, Small, SmallRecord}

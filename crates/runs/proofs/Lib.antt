@@ -8,9 +8,11 @@ pub mod Fed
 pub mod Formed
 pub mod Frames
 pub mod Lines
+pub mod Live
 pub mod Moves
 pub mod Places
 pub mod Reach
+pub mod Removes
 pub mod Rings
 pub mod Runs
 pub mod Safe

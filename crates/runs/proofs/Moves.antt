@@ -1,42 +1,40 @@
 -- Swap, insert and remove, honestly: U2 up a fork of two leaves, the EI that follows from it, and adopt.
 use mathlib.Core.Path.{_≡_, refl, sym, ap, ap₂, subst, _∙_}
 use mathlib.Core.Bool.{Bool, true, false}
-use mathlib.Core.List.{List, [], _∷_, _++_, append-assoc, List·Memᴰ·cases-cons}
-use mathlib.Core.Logic.{_⊎_, inl, inr, _≢_}
-use Prim.Native.Nat.{ℕ, _+_, _≤_, _<_}
-use native.Mathlib.Decide.{decLt}
+use mathlib.Core.List.{List, [], _∷_, _++_, append-assoc}
+use mathlib.Core.Logic.{_≢_}
+use Prim.Native.Nat.{ℕ, _≤_, _<_}
 use native.Mathlib.Omega.{arith}
-use borrow.Author.Tests.{eq-eqb, eqb-true}
-use lib.Dec.{eqb}
+use borrow.Author.Tests.{eqb-true}
 use Rattle.seqs.specs.Choose.{pick}
 use Rattle.paper.specs.declared.Record.{Record}
 use Rattle.paper.specs.declared.Registers.{Registers}
-use Rattle.paper.specs.Strings.{Dig, nought, ei, u2, leaf, enc, memo, digest, inGap, recordHash, H}
+use Rattle.paper.specs.Strings.{Dig, nought, ei, u2, leaf, enc, memo, digest, recordHash, H}
 use Rattle.paper.specs.Requests as Q
 use Rattle.paper.specs.Requests.{Request}
-use Rattle.paper.specs.Refusals.{clearedRecord, noneFits, needs}
+use Rattle.paper.specs.Refusals.{clearedRecord, noneFits}
 use Rattle.paper.specs.Answers as Does
 use Rattle.paper.specs.Answers.{rooted}
-use Rattle.rings.specs.Trees.{Leaf, points, Tree, empty, tip, branch, leaves, hashOf, one, count}
-use Rattle.rings.specs.Lists.{Item, item, Listed, Unlisted, insert, remove, ring}
+use Rattle.rings.specs.Trees.{Leaf, points, Tree, tip, leaves, hashOf, count}
+use Rattle.rings.specs.Lists.{Item, item, Unlisted, insert}
 use Rattle.rings.specs.Changes.{insertion, removal}
-use Rattle.rings.proofs.Counting.{one-self, one-same, count-nil, count-cons, count-append}
-use Rattle.rings.proofs.Gaps.{gap-tells, gap-apart}
-use Rattle.rings.proofs.Find.{spot, near}
+use Rattle.rings.proofs.Counting.{count-nil}
+use Rattle.rings.proofs.Gaps.{gap-tells}
+use Rattle.rings.proofs.Find.{spot}
 use Rattle.runs.specs.Run.{Items, World}
 use Rattle.runs.specs.Wishes.{IsListed}
-use Rattle.runs.specs.Ways.{itemOf, nextOf, hashIn, isOf, leadsTo, gapHolds, Way, has, found, wayTo, rise, Fork, forkOf, halves, riseTwo, leftOne, rightOne, exchanged}
-use Rattle.runs.specs.Honest.{Edit, note, sayTwo, twoPlaces, relinked, gone, placed, rootWith, rootWithout, alone, insertLines, removeLines, swapLines}
+use Rattle.runs.specs.Ways.{itemOf, nextOf, hashIn, isOf, gapHolds, Way, has, found, wayTo, rise, Fork, forkOf, halves, riseTwo, leftOne, rightOne, exchanged}
+use Rattle.runs.specs.Honest.{Edit, note, sayTwo, twoPlaces, placed, rootWith, rootWithout, alone, insertLines, swapLines}
 use Rattle.runs.proofs.Widths.{Small}
-use Rattle.runs.proofs.Frames.{IsDigest, Sendable}
+use Rattle.runs.proofs.Frames.{IsDigest}
 use Rattle.runs.proofs.Climbs.{nought-digest, record-digest, tree-digest, two-digest}
-use Rattle.runs.proofs.Places.{plug-two, rise-two, Forks, forked, exchanged-fork}
-use Rattle.runs.proofs.Rings.{ring-once, one-of-item, one-to-item}
+use Rattle.runs.proofs.Places.{plug-two, rise-two, forked, exchanged-fork}
+use Rattle.runs.proofs.Rings.{ring-once}
 use Rattle.runs.proofs.Fed.{at, note-fits, Brings}
-use Rattle.runs.proofs.Reach.{IsEdit, is-open, two-places}
-use Rattle.runs.proofs.Adopts.{Heads, heads-line, heads-after, turn-last, adopt-last, first-line, sides-are, with-digest, without-digest, place-lines}
+use Rattle.runs.proofs.Reach.{is-open, two-places}
+use Rattle.runs.proofs.Adopts.{heads-line, heads-after, turn-last, adopt-last, first-line, sides-are, with-digest, without-digest, place-lines}
 use Rattle.runs.proofs.Asks.{none-hash}
-use Rattle.runs.proofs.Standing.{Ground, leaf-digest, Spotted, spot-by, spotted, of-item}
+use Rattle.runs.proofs.Standing.{Ground, leaf-digest, spot-by, spotted, of-item}
 
 module _ (D : List ℕ → Dig) (DD : (l : List ℕ) → IsDigest (D l)) (w : World) (T : Tree) (g : Ground D w T) where
   abbrev s : Registers
@@ -155,10 +153,11 @@ module _ (D : List ℕ → Dig) (DD : (l : List ℕ) → IsDigest (D l)) (w : Wo
       let h = place-lines D DD w (g .opened) f B A B′ ω (d .small) small (t .next-small) hω (d .positive) positive (t .next-positive) (t .passes) in
       let k = turn-last D DD w (g .opened) (placed D s f B A B′ ω) y y′ (removal A ∷ []) hy hy′ h in
       let turned = Q.turn y y′ (note D s (ei y y′)) in
-      let r = adopt-last D DD w (g .opened) (placed D s f B A B′ ω ++ (turned ∷ [])) y′ y (insertion A ∷ []) hy′ hy root k in
-      (y,
-      subst (λ (qs : List Request). Brings D w qs (rooted s y) (insert A clearedRecord (w .items)))
-      (append-assoc (placed D s f B A B′ ω) (turned ∷ []) (Q.adopt y′ y (note D s (ei y′ y)) ∷ [])) r)
+      let r = adopt-last D DD w (g .opened) (placed D s f B A B′ ω ++ (turned ∷ [])) y′ y (insertion A ∷ []) hy′ hy root k in (
+        y,
+        subst (λ (qs : List Request). Brings D w qs (rooted s y) (insert A clearedRecord (w .items)))
+            (append-assoc (placed D s f B A B′ ω) (turned ∷ []) (Q.adopt y′ y (note D s (ei y′ y)) ∷ [])) r,
+      )
 
   pub insert-brings : (A : ℕ) → Small A → 0 < A → Unlisted A (w .items)
       → (y : Dig) × Brings D w (insertLines D s A T (w .items)) (rooted s y) (insert A clearedRecord (w .items))

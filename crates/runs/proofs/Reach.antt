@@ -1,8 +1,8 @@
 -- U1 up a way of any length, by paths and joins, and U2 up a fork, by pair and raise: the lines of `specs/Honest` are honest
 -- and get those memoranda.
-use mathlib.Core.Path.{_≡_, refl, sym, ap, subst, _∙_}
+use mathlib.Core.Path.{_≡_, refl, sym, ap, _∙_}
 use mathlib.Core.Bool.{true, false}
-use mathlib.Core.List.{List, [], _∷_, _++_, append-assoc}
+use mathlib.Core.List.{List, [], _∷_, _++_}
 use Prim.Native.Nat.{ℕ, _≤_}
 use native.Mathlib.Omega.{arith}
 use lib.ListN.{length}
@@ -10,11 +10,9 @@ use Rattle.seqs.specs.Choose.{opposite}
 use Rattle.paper.specs.declared.Registers.{Registers}
 use Rattle.paper.specs.Strings.{Dig, Memo, u1, v1, u2, Str, enc, memo, H, parentForms, foldUp, foldForms}
 use Rattle.paper.specs.Requests as Q
-use Rattle.paper.specs.Requests.{Request}
 use Rattle.paper.specs.Answers as Does
-use Rattle.paper.specs.Answers.{Answer, issue, answer}
 use Rattle.runs.specs.Run.{Issue, isIssued, World}
-use Rattle.runs.specs.Ways.{Way, sidesOf, siblingsOf, rise, cut, Fork, riseTwo}
+use Rattle.runs.specs.Ways.{Way, sidesOf, siblingsOf, rise, cut, Fork}
 use Rattle.runs.specs.Honest.{Edit, note, sayOne, alongPath, joined, onePlace, sayTwo, twoPlaces}
 use Rattle.runs.proofs.Frames.{IsDigest}
 use Rattle.runs.proofs.Climbs.{siblings-length, sides-fit, fold-rises, rise-append, whole, AllShort, cut-whole, lowest-short, higher-short, parent-digest, siblings-digests, rise-digest}

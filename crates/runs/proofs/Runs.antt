@@ -343,7 +343,7 @@ module _ (D : List ℕ → Dig) (D32 : (l : List ℕ) → length (D l) ≡ 32) w
 
   -- ── the run ──
 
-  side : (k : Dig) (ts : List Turn) → Side k (after D k ts)
+  pub side : (k : Dig) (ts : List Turn) → Side k (after D k ts)
   side k [] =
       record {
         small = omega arith;
@@ -387,7 +387,7 @@ module _ (D : List ℕ → Dig) (D32 : (l : List ℕ) → length (D l) ≡ 32) w
       on (inl e) = inl (earlier t e)
       on (inr x) = land (x .1) (line-out (after D k ts) t (x .0))
 
-  stands-of : (w : World) → Core D D32 w → Stands D w
+  pub stands-of : (w : World) → Core D D32 w → Stands D w
   stands-of w c =
       record {
         tree = c .tree;

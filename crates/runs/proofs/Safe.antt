@@ -18,7 +18,7 @@ use Rattle.paper.specs.Refusals.{clearedRecord, passed}
 use Rattle.paper.specs.Answers.{Change, none′, issues, changes, answer, findingOf}
 use Rattle.paper.specs.Module.{Told, told}
 use Rattle.paper.specs.declared.Finding.the-variants.{Recorded, Listed, Gap}
-use Rattle.rings.specs.Trees.{Tree, empty, hashOf}
+use Rattle.rings.specs.Trees.{Tree, hashOf}
 use Rattle.rings.specs.Lists.{item}
 use Rattle.rings.proofs.Nodes.{_∈_, Within}
 use Rattle.rings.proofs.Memos.{Means, StandsFor, stands-more}

@@ -1,7 +1,7 @@
 -- Set and clear, honestly: U1 from the item's leaf up to the root, and the line that changes the record.
-use mathlib.Core.Path.{_≡_, refl, sym, ap, _∙_}
-use mathlib.Core.Bool.{Bool, true, false}
-use mathlib.Core.List.{List, [], _∷_, _++_}
+use mathlib.Core.Path.{_≡_, ap, _∙_}
+use mathlib.Core.Bool.{false}
+use mathlib.Core.List.{List, []}
 use Prim.Native.Nat.{ℕ, _<_}
 use native.Mathlib.Omega.{arith}
 use borrow.Author.Tests.{ne-eqb, eqb-true}
@@ -10,21 +10,20 @@ use Rattle.paper.specs.declared.Record.{Record}
 use Rattle.paper.specs.declared.Registers.{Registers}
 use Rattle.paper.specs.Strings.{Dig, enc, memo, blank}
 use Rattle.paper.specs.Requests as Q
-use Rattle.paper.specs.Requests.{Request}
 use Rattle.paper.specs.Refusals.{top, nextRecord, clearedRecord, needs}
 use Rattle.paper.specs.Answers.{raised}
 use Rattle.rings.specs.Trees.{Tree}
 use Rattle.rings.specs.Lists.{Listed, putRecord}
 use Rattle.runs.specs.Run.{World}
 use Rattle.runs.specs.Ways.{nextOf, isOf, found, wayTo, rise}
-use Rattle.runs.specs.Honest.{recordOf, Edit, note, sayOne, rewritten, setLines, clearLines}
+use Rattle.runs.specs.Honest.{recordOf, note, sayOne, rewritten, setLines, clearLines}
 use Rattle.runs.proofs.Accepted.{NoneFails}
 use Rattle.runs.proofs.Widths.{Small}
 use Rattle.runs.proofs.Frames.{IsDigest, Sendable}
 use Rattle.runs.proofs.Climbs.{rise-digest}
 use Rattle.runs.proofs.Sizes.{record-is, Decent}
 use Rattle.runs.proofs.Fed.{at, fair-one, lands, note-fits, Brings, after-got}
-use Rattle.runs.proofs.Reach.{IsEdit, is-open, one-place}
+use Rattle.runs.proofs.Reach.{is-open, one-place}
 use Rattle.runs.proofs.Adopts.{not-zero, at-root}
 use Rattle.runs.proofs.Standing.{Ground, Spotted, spotted, of-item, item-digest}
 

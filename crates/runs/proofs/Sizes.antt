@@ -1,7 +1,7 @@
 -- The list of a run: a listed item has one record, and every number and record in it can be put into a line.
-use mathlib.Core.Path.{_≡_, refl, subst, ap}
-use mathlib.Core.Bool.{Bool, true, false}
-use mathlib.Core.List.{List, [], _∷_, List·Memᴰ·head, List·Memᴰ·tail, List·Memᴰ·cases-cons}
+use mathlib.Core.Path.{_≡_, subst}
+use mathlib.Core.Bool.{false}
+use mathlib.Core.List.{List, [], _∷_, List·Memᴰ·cases-cons}
 use mathlib.Core.Logic.{_⊎_, inl, inr}
 use Prim.Native.Nat.{ℕ, _<_}
 use native.Mathlib.Decide.{decLt}
@@ -13,7 +13,7 @@ use Rattle.seqs.specs.Choose.{pick}
 use Rattle.paper.specs.declared.Record.{Record}
 use Rattle.paper.specs.Strings.{Dig, Str, leaf, entry, digest, malformed}
 use Rattle.rings.specs.Trees.{points, Tree, empty, tip, branch, leaves, count}
-use Rattle.rings.specs.Lists.{Item, item, Ascending, Listed}
+use Rattle.rings.specs.Lists.{item, Ascending, Listed}
 use Rattle.rings.proofs.Counting.{count-nil, count-append, count-single}
 use Rattle.rings.proofs.Nodes.{_∈_, TreeIn}
 use Rattle.rings.proofs.Items.{record-at, listed-above}

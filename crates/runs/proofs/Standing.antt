@@ -1,34 +1,25 @@
 -- A world and a tree that stands for it: what is known of the leaf that a test finds. And set and clear, which change one leaf.
 use mathlib.Core.Path.{_≡_, refl, sym, ap, subst, _∙_}
-use mathlib.Core.Bool.{Bool, true, false}
-use mathlib.Core.List.{List, [], _∷_, _++_}
-use Prim.Native.Nat.{ℕ, _+_, _<_}
+use mathlib.Core.Bool.{Bool, true}
+use mathlib.Core.List.{List}
+use Prim.Native.Nat.{ℕ, _<_}
 use native.Mathlib.Omega.{arith}
-use borrow.Author.Tests.{eq-eqb, ne-eqb, eqb-true}
-use lib.Dec.{eqb}
+use borrow.Author.Tests.{eq-eqb}
 use Rattle.paper.specs.declared.Record.{Record}
 use Rattle.paper.specs.declared.Registers.{Registers}
-use Rattle.paper.specs.Strings.{Dig, Str, leaf, enc, memo, digest, blank, recordHash}
-use Rattle.paper.specs.Requests as Q
-use Rattle.paper.specs.Requests.{Request}
-use Rattle.paper.specs.Refusals.{top, nextRecord, clearedRecord, leafOf, needs}
-use Rattle.paper.specs.Answers.{raised}
+use Rattle.paper.specs.Strings.{Dig, leaf, digest, recordHash}
+use Rattle.paper.specs.Refusals.{leafOf}
 use Rattle.rings.specs.Trees.{Leaf, points, Tree, tip, leaves, hashOf, count, Permuted}
-use Rattle.rings.specs.Lists.{Ascending, Listed, putRecord, ring}
+use Rattle.rings.specs.Lists.{Ascending, Listed, ring}
 use Rattle.rings.proofs.Find.{item-leaf}
-use Rattle.runs.specs.Run.{Issue, World}
+use Rattle.runs.specs.Run.{World}
 use Rattle.runs.specs.Ways.{itemOf, nextOf, hashIn, isOf, has, found, wayTo, rise}
-use Rattle.runs.specs.Honest.{recordOf, Edit, note, sayOne, onePlace, rewritten, setLines, clearLines}
-use Rattle.runs.proofs.Accepted.{NoneFails}
+use Rattle.runs.specs.Honest.{recordOf}
 use Rattle.runs.proofs.Widths.{Small}
-use Rattle.runs.proofs.Frames.{IsDigest, Sendable}
-use Rattle.runs.proofs.Climbs.{record-digest, rise-digest}
-use Rattle.runs.proofs.Places.{plug, rise-plug, has-it, found-passes, found-occurs, located}
+use Rattle.runs.proofs.Frames.{IsDigest}
+use Rattle.runs.proofs.Places.{rise-plug, has-it, found-passes, found-occurs, located}
 use Rattle.runs.proofs.Rings.{leaf-held, leaf-next}
-use Rattle.runs.proofs.Sizes.{record-is, Decent, AllDecent}
-use Rattle.runs.proofs.Fed.{at, fair-one, lands, note-fits, Brings, after-got}
-use Rattle.runs.proofs.Reach.{is-open, one-place}
-use Rattle.runs.proofs.Adopts.{not-zero, at-root}
+use Rattle.runs.proofs.Sizes.{record-is, AllDecent}
 
 module _ (D : List ℕ → Dig) where
   -- the module is open, the tree stands for the list, and what is listed fits lines

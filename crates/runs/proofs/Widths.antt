@@ -14,7 +14,7 @@ use Rattle.paper.specs.declared.Record.{Record}
 use Rattle.paper.specs.Strings.{Dig}
 use Rattle.rings.proofs.Paths.{AllWide}
 use Rattle.paper.specs.Requests as Q
-use Rattle.paper.specs.Requests.{Request, Carried, aNumber, aDigest, aRecord, aPath, countIn, digestsIn, siblingsIn, recordIn, Kind, kinds, kindOf, known, rowOf, takes, takesAll, part, sound, fits, requestOf}
+use Rattle.paper.specs.Requests.{Request, Carried, aNumber, aDigest, aRecord, aPath, countIn, digestsIn, siblingsIn, recordIn, Kind, kinds, kindOf, known, rowOf, takes, takesAll, part, fits, requestOf}
 
 -- ── widths ──
 

@@ -1,0 +1,168 @@
+-- Remove, honestly: the only item by first, turned round; else by place, with the item's leaf and the one that leads to it.
+use mathlib.Core.Path.{_≡_, refl, sym, ap, ap₂, subst, _∙_}
+use mathlib.Core.Bool.{Bool, true, false}
+use mathlib.Core.List.{List, [], _∷_, List·Memᴰ·cases-cons}
+use mathlib.Core.Logic.{_⊎_, inl, inr, _≢_}
+use Prim.Native.Nat.{ℕ, _+_, _≤_, _<_}
+use native.Mathlib.Decide.{decLt}
+use native.Mathlib.Omega.{arith}
+use borrow.Author.Tests.{eq-eqb, eqb-true}
+use lib.ListN.{length}
+use Rattle.seqs.specs.Choose.{pick}
+use Rattle.seqs.specs.Bytes.{allZero}
+use Rattle.paper.specs.declared.Record.{Record}
+use Rattle.paper.specs.declared.Registers.{Registers}
+use Rattle.paper.specs.Strings.{Dig, nought, ei, leaf, node, digest, inGap, recordHash, H}
+use Rattle.paper.specs.Requests as Q
+use Rattle.paper.specs.Refusals.{clearedRecord}
+use Rattle.paper.specs.Answers.{rooted}
+use Rattle.rings.specs.Trees.{Leaf, points, Tree, empty, tip, branch, leaves, hashOf, one, count}
+use Rattle.rings.specs.Lists.{Item, item, Listed, remove, ring}
+use Rattle.rings.specs.Changes.{insertion, removal}
+use Rattle.rings.proofs.Counting.{one-self, one-same, count-nil, count-cons, count-append, count-only}
+use Rattle.rings.proofs.Gaps.{gap-tells, gap-apart}
+use Rattle.rings.proofs.Find.{Near, near}
+use Rattle.rings.proofs.Bridge.{zero-is-nought}
+use Rattle.runs.specs.Run.{Items, World}
+use Rattle.runs.specs.Ways.{itemOf, nextOf, hashIn, isOf, leadsTo, found, forkOf}
+use Rattle.runs.specs.Honest.{note, relinked, gone, rootWith, rootWithout, placed, alone, removeLines}
+use Rattle.runs.proofs.Frames.{IsDigest}
+use Rattle.runs.proofs.Climbs.{nought-digest, record-digest, tree-digest}
+use Rattle.runs.proofs.Places.{forked}
+use Rattle.runs.proofs.Rings.{one-of-item, one-to-item}
+use Rattle.runs.proofs.Fed.{Brings}
+use Rattle.runs.proofs.Adopts.{turn-last, adopt-last, first-line, with-digest, without-digest, place-lines}
+use Rattle.runs.proofs.Asks.{none-hash}
+use Rattle.runs.proofs.Standing.{Ground, leaf-digest, spot-by, spotted}
+use Rattle.runs.proofs.Moves.{feet-were}
+
+-- ── a tree of one leaf ──
+
+module _ (D : List ℕ → Dig) where
+  beside-nought : (u v : Dig) → v ≡ nought → H D u v ≡ u
+  unfolding H
+  beside-nought u v e = rw e refl
+
+  -- 0 on the left, and something on the right
+  behind-nought : (u v : Dig) → u ≡ nought → length v ≡ 32 → H D u v ≡ v
+  unfolding H
+  behind-nought u v e h = by-test (allZero v) refl
+    where
+      by-test : (b : Bool) → allZero v ≡ b → pick b u (pick (allZero u) v (digest D (node u v))) ≡ v
+      by-test true f = e ∙ sym (zero-is-nought v h f)
+      by-test false f = rw e refl
+
+  one-hash : (T : Tree) (y : Leaf) → ((t : Tree) → length (hashOf D t) ≡ 32) → ((x : Leaf) → count x (leaves T) ≡ one x y)
+      → hashOf D T ≡ hashOf D (tip y)
+  one-hash empty y wide f = absurd (omega (arith, f y, count-nil y, one-self y))
+  one-hash (tip z) y wide f =
+      ap (λ (x : Leaf). hashOf D (tip x)) (one-same z y (omega (arith, f z, count-cons z z [], one-self z)))
+  one-hash (branch l r) y wide f = by-side (decLt 0 (count y (leaves l))) (one-hash l y wide) (one-hash r y wide)
+    where
+      sum : (x : Leaf) → count x (leaves l) + count x (leaves r) ≡ one x y
+      sum x = sym (count-append x (leaves l) (leaves r)) ∙ f x
+
+      -- a half that does not have y has no leaf
+      none-in : (t : Tree) → count y (leaves t) ≡ 0 → ((x : Leaf) → count x (leaves t) ≤ one x y) → (x : Leaf) → count x (leaves t) ≡ 0
+      none-in t z most x = by-leaf (decLt 0 (one x y))
+        where
+          by-leaf : Dec (0 < one x y) → count x (leaves t) ≡ 0
+          by-leaf (yes h) = rw (one-same x y h) z
+          by-leaf (no h) = omega (arith, most x)
+
+      by-side : Dec (0 < count y (leaves l)) → (((x : Leaf) → count x (leaves l) ≡ one x y) → hashOf D l ≡ hashOf D (tip y))
+          → (((x : Leaf) → count x (leaves r) ≡ one x y) → hashOf D r ≡ hashOf D (tip y)) → H D (hashOf D l) (hashOf D r) ≡ hashOf D (tip y)
+      by-side (yes h) u v =
+          let z = none-in r (omega (arith, sum y, one-self y)) (λ x. omega (arith, sum x)) in
+          beside-nought (hashOf D l) (hashOf D r) (none-hash D r z) ∙ u (λ x. omega (arith, sum x, z x))
+      by-side (no h) u v =
+          let z = none-in l (omega arith) (λ x. omega (arith, sum x)) in
+          behind-nought (hashOf D l) (hashOf D r) (none-hash D l z) (wide r) ∙ v (λ x. omega (arith, sum x, z x))
+
+  no-record-hash : recordHash D clearedRecord ≡ nought
+  unfolding recordHash
+  no-record-hash = refl
+
+module _ (D : List ℕ → Dig) (DD : (l : List ℕ) → IsDigest (D l)) (w : World) (T : Tree) (g : Ground D w T) where
+  abbrev s : Registers
+  s = w .registers
+
+  -- ── the only item ──
+
+  remove-only : (A a : ℕ) (r : Record) → Listed A clearedRecord (w .items) → w .items ≡ item a r ∷ []
+      → Brings D w (removeLines D s A T (item a r ∷ [])) (rooted s nought) (remove A (w .items))
+  remove-only A a r m e =
+      let d = g .decent A clearedRecord m in
+      let y = points A A nought in
+      let only : (x : Leaf) → count x (leaves T) ≡ one x y =
+      λ x. g .holds x ∙ ap (λ (l : Items). count x (ring (recordHash D) l)) e ∙ single x in
+      let root : alone D s A ≡ s .root = sym (one-hash D T y (λ t. tree-digest D DD t .wide) only) ∙ g .root in
+      let k = turn-last D DD w (g .opened) (Q.first A ∷ []) nought (alone D s A) (insertion A ∷ []) nought-digest (DD _)
+      (first-line D DD w (g .opened) A (d .small) (d .positive)) in
+      adopt-last D DD w (g .opened) (Q.first A ∷ Q.turn nought (alone D s A) (note D s (ei nought (alone D s A))) ∷ []) (alone D s A) nought
+      (removal A ∷ []) (DD _) nought-digest root k
+    where
+      same-item : (item A clearedRecord ≡ item a r) ⊎ Listed A clearedRecord [] → item A clearedRecord ≡ item a r
+      same-item (inl p) = p
+      same-item (inr j) = elim j [ ]
+
+      single : (x : Leaf) → count x (points a a (recordHash D r) ∷ []) ≡ one x (points A A nought)
+      single x =
+          let p = same-item (List·Memᴰ·cases-cons (rw e at m)) in
+          let q : A ≡ a = cc in
+          let u : clearedRecord ≡ r = cc in
+          let v : recordHash D r ≡ nought = ap (recordHash D) (sym u) ∙ no-record-hash D in
+          count-only x (points A A nought) _ (λ i. points (sym q i) (sym q i) (v i) ∷ [])
+
+  -- ── one of several ──
+
+  remove-between : (A : ℕ) → Listed A clearedRecord (w .items) → Near A (recordHash D clearedRecord) (ring (recordHash D) (w .items))
+      → (i j : Item Record) (l : Items)
+      → (y : Dig) × Brings D w (removeLines D s A T (i ∷ j ∷ l)) (rooted s y) (remove A (w .items))
+  remove-between A m n i j l =
+      let hx = spot-by D DD w T g (leadsTo A) (points (n .a) A (n .w)) (eq-eqb A A refl) (n .on) in
+      let hz = spot-by D DD w T g (isOf A) (points A (n .b) (recordHash D clearedRecord)) (eq-eqb A A refl) (n .next) in
+      let tx = spotted D DD w T g (leadsTo A) hx in
+      let tz = spotted D DD w T g (isOf A) hz in
+      let x = found (leadsTo A) T in
+      let z = found (isOf A) T in
+      let x-next : A ≡ nextOf x = eqb-true A _ (tx .passes) in
+      let z-item : A ≡ itemOf z = eqb-true A _ (tz .passes) in
+      let x-is : x ≡ points (n .a) A (n .w) =
+      one-to-item (recordHash D) x _ (w .items) (g .ascending) (sym x-next) (tx .in-ring) (n .on) in
+      let z-is : z ≡ points A (n .b) (recordHash D clearedRecord) =
+      one-of-item (recordHash D) z _ (w .items) (g .ascending) (sym z-item) (tz .in-ring) (n .next) in
+      let other : x ≢ z = λ e. gap-apart (n .gap) (sym (ap itemOf x-is) ∙ ap itemOf e ∙ sym z-item) in
+      let B = itemOf x in
+      let B′ = nextOf z in
+      let ω = hashIn x in
+      let dB = g .decent B (tx .held) (tx .listed) in
+      let dA = g .decent A clearedRecord m in
+      let hω = subst IsDigest (tx .hash-is) (record-digest D DD (tx .held)) in
+      let gap : inGap A B B′ ≡ true = (λ k. inGap A (itemOf (x-is k)) (nextOf (z-is k))) ∙ gap-tells (n .gap) in
+      let f = forkOf (leadsTo A) (isOf A) T in
+      let y = rootWith D s f B A B′ ω in
+      let y′ = rootWithout D s f B A B′ ω in
+      let x-was : digest D (leaf B A ω) ≡ hashOf D (tip x) = ap (λ (k : ℕ). digest D (leaf B k ω)) x-next ∙ leaf-digest D x in
+      let empty-z : nought ≡ hashIn z = sym (ap hashIn z-is ∙ no-record-hash D) in
+      let z-was : digest D (leaf A B′ nought) ≡ hashOf D (tip z) =
+      ap₂ (λ (k : ℕ) (v : Dig). digest D (leaf k B′ v)) z-item empty-z ∙ leaf-digest D z in
+      let root : y ≡ s .root =
+      feet-were D DD w T g f (relinked D s B A B′ ω) (gone D s A B′) x z x-was z-was
+      ∙ ap (hashOf D) (forked (leadsTo A) (isOf A) T hx hz other) ∙ g .root in
+      let h = place-lines D DD w (g .opened) f B A B′ ω (dB .small) (dA .small) (tz .next-small) hω (dB .positive) (dA .positive) (tz .next-positive) gap in (
+        y′,
+        adopt-last D DD w (g .opened) (placed D s f B A B′ ω) y y′ (removal A ∷ []) (with-digest D DD w (g .opened) f B A B′ ω)
+            (without-digest D DD w (g .opened) f B A B′ ω) root h,
+      )
+
+  pub remove-brings : (A : ℕ) → Listed A clearedRecord (w .items)
+      → (y : Dig) × Brings D w (removeLines D s A T (w .items)) (rooted s y) (remove A (w .items))
+  remove-brings A m = by-items (w .items) refl
+    where
+      by-items : (l : Items) → w .items ≡ l → (y : Dig) × Brings D w (removeLines D s A T l) (rooted s y) (remove A (w .items))
+      by-items [] e = elim (rw e at m) [ ]
+      by-items (item a r ∷ []) e = (nought, remove-only A a r m e)
+      by-items (item a r ∷ item b t ∷ l) e =
+          let n = near (recordHash D) A clearedRecord a r b t l (rw e at (g .ascending)) (rw e at m) in
+          remove-between A m (rw e n) (item a r) (item b t) l
