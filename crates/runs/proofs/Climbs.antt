@@ -12,7 +12,7 @@ use Rattle.seqs.specs.Bytes.{Bytes, allZero}
 use Rattle.paper.specs.declared.Record.{Record}
 use Rattle.paper.specs.Strings.{Dig, nought, node, entry, enc, digest, blank, recordHash, H, up, foldUp}
 use Rattle.rings.specs.Trees.{points, Tree, empty, tip, branch, hashOf}
-use Rattle.runs.specs.Ways.{onLeft, onRight, Way, sidesOf, siblingsOf, rise, cut, Fork, riseTwo}
+use Rattle.runs.specs.Ways.{onLeft, onRight, Way, sidesOf, siblingsOf, rise, cut, Fork, Edit, risen, parents, risenTwo}
 use Rattle.runs.proofs.Frames.{IsDigest, AllDigests}
 
 -- ── sides ──
@@ -85,6 +85,10 @@ pick-digest : (b : Bool) (u v : Dig) → IsDigest u → IsDigest v → IsDigest 
 pick-digest true u v h k = h
 pick-digest false u v h k = k
 
+pub record IsEdit (e : Edit) : Type 0 where
+  pub old : IsDigest (e .was)
+  pub new : IsDigest (e .becomes)
+
 module _ (D : List ℕ → Dig) (DD : (l : List ℕ) → IsDigest (D l)) where
   pub record-digest : (r : Record) → IsDigest (recordHash D r)
   unfolding recordHash
@@ -111,7 +115,19 @@ module _ (D : List ℕ → Dig) (DD : (l : List ℕ) → IsDigest (D l)) where
   rise-digest (onLeft S ∷ p) x h = rise-digest p (H D (hashOf D S) x) (parent-digest (hashOf D S) x (tree-digest S) h)
   rise-digest (onRight S ∷ p) x h = rise-digest p (H D x (hashOf D S)) (parent-digest x (hashOf D S) h (tree-digest S))
 
-  pub two-digest : (f : Fork) (x y : Dig) → IsDigest x → IsDigest y → IsDigest (riseTwo D f x y)
-  two-digest f x y h k =
-      rise-digest (f .above) _
-      (parent-digest (rise D (f .left) x) (rise D (f .right) y) (rise-digest (f .left) x h) (rise-digest (f .right) y k))
+  -- both digests of an edit
+
+  pub risen-is : (p : Way) (e : Edit) → IsEdit e → IsEdit (risen D p e)
+  risen-is p e h = record { old = rise-digest p (e .was) (h .old); new = rise-digest p (e .becomes) (h .new) }
+
+  pub parents-are : (a b : Edit) → IsEdit a → IsEdit b → IsEdit (parents D a b)
+  parents-are a b h k =
+      record {
+        old = parent-digest (a .was) (b .was) (h .old) (k .old);
+        new = parent-digest (a .becomes) (b .becomes) (h .new) (k .new);
+      }
+
+  pub risen-two-is : (f : Fork) (a b : Edit) → IsEdit a → IsEdit b → IsEdit (risenTwo D f a b)
+  risen-two-is f a b h k =
+      risen-is (f .above) (parents D (risen D (f .left) a) (risen D (f .right) b))
+      (parents-are (risen D (f .left) a) (risen D (f .right) b) (risen-is (f .left) a h) (risen-is (f .right) b k))

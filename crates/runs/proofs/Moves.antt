@@ -9,7 +9,7 @@ use borrow.Author.Tests.{eqb-true}
 use Rattle.seqs.specs.Choose.{pick}
 use Rattle.paper.specs.declared.Record.{Record}
 use Rattle.paper.specs.declared.Registers.{Registers}
-use Rattle.paper.specs.Strings.{Dig, nought, ei, u2, leaf, enc, memo, digest, recordHash, H}
+use Rattle.paper.specs.Strings.{Dig, nought, u2, leaf, enc, memo, digest, recordHash, H}
 use Rattle.paper.specs.Requests as Q
 use Rattle.paper.specs.Requests.{Request}
 use Rattle.paper.specs.Refusals.{clearedRecord, noneFits}
@@ -23,16 +23,16 @@ use Rattle.rings.proofs.Gaps.{gap-tells}
 use Rattle.rings.proofs.Find.{spot}
 use Rattle.runs.specs.Run.{Items, World}
 use Rattle.runs.specs.Wishes.{IsListed}
-use Rattle.runs.specs.Ways.{itemOf, nextOf, hashIn, isOf, gapHolds, Way, has, found, wayTo, rise, Fork, forkOf, halves, riseTwo, leftOne, rightOne, exchanged}
-use Rattle.runs.specs.Honest.{Edit, note, sayTwo, twoPlaces, placed, rootWith, rootWithout, alone, insertLines, swapLines}
+use Rattle.runs.specs.Ways.{itemOf, nextOf, hashIn, isOf, gapHolds, Way, has, found, wayTo, rise, Fork, forkOf, halves, leftOne, rightOne, Edit, risenTwo, exchanged}
+use Rattle.runs.specs.Honest.{sayU2, sayEI, turned, note, twoPlaces, turnRound, takeOver, without, placed, alone, insertLines, swapLines}
 use Rattle.runs.proofs.Widths.{Small}
 use Rattle.runs.proofs.Frames.{IsDigest}
-use Rattle.runs.proofs.Climbs.{nought-digest, record-digest, tree-digest, two-digest}
+use Rattle.runs.proofs.Climbs.{record-digest, tree-digest, IsEdit, risen-two-is}
 use Rattle.runs.proofs.Places.{plug-two, rise-two, forked, exchanged-fork}
 use Rattle.runs.proofs.Rings.{ring-once}
 use Rattle.runs.proofs.Fed.{at, note-fits, Brings}
 use Rattle.runs.proofs.Reach.{is-open, two-places}
-use Rattle.runs.proofs.Adopts.{heads-line, heads-after, turn-last, adopt-last, first-line, sides-are, with-digest, without-digest, place-lines}
+use Rattle.runs.proofs.Adopts.{heads-line, heads-after, turn-last, adopt-last, alone-is, first-line, feet-are, without-is, place-lines}
 use Rattle.runs.proofs.Asks.{none-hash}
 use Rattle.runs.proofs.Standing.{Ground, leaf-digest, spot-by, spotted, of-item}
 
@@ -44,8 +44,10 @@ module _ (D : List ℕ → Dig) (DD : (l : List ℕ) → IsDigest (D l)) (w : Wo
 
   -- old or new ones that are the hashes of two leaves rise to the hash of the tree with those leaves there
   pub feet-were : (f : Fork) (a b : Edit) (x y : Leaf) → a .was ≡ hashOf D (tip x) → b .was ≡ hashOf D (tip y)
-      → riseTwo D f (leftOne f a b .was) (rightOne f a b .was) ≡ hashOf D (plug-two f (tip (leftOne f x y)) (tip (rightOne f x y)))
-  feet-were f a b x y h k = ap₂ (riseTwo D f) (by-left (f .crossed)) (by-right (f .crossed)) ∙ rise-two D f _ _
+      → risenTwo D f (leftOne f a b) (rightOne f a b) .was ≡ hashOf D (plug-two f (tip (leftOne f x y)) (tip (rightOne f x y)))
+  feet-were f a b x y h k =
+      ap₂ (λ (u v : Dig). rise D (f .above) (H D (rise D (f .left) u) (rise D (f .right) v))) (by-left (f .crossed)) (by-right (f .crossed))
+      ∙ rise-two D f _ _
     where
       by-left : (c : Bool) → (pick c b a) .was ≡ hashOf D (tip (pick c y x))
       by-left true = k
@@ -56,8 +58,10 @@ module _ (D : List ℕ → Dig) (DD : (l : List ℕ) → IsDigest (D l)) (w : Wo
       by-right false = k
 
   feet-become : (f : Fork) (a b : Edit) (x y : Leaf) → a .becomes ≡ hashOf D (tip x) → b .becomes ≡ hashOf D (tip y)
-      → riseTwo D f (leftOne f a b .becomes) (rightOne f a b .becomes) ≡ hashOf D (plug-two f (tip (leftOne f x y)) (tip (rightOne f x y)))
-  feet-become f a b x y h k = ap₂ (riseTwo D f) (by-left (f .crossed)) (by-right (f .crossed)) ∙ rise-two D f _ _
+      → risenTwo D f (leftOne f a b) (rightOne f a b) .becomes ≡ hashOf D (plug-two f (tip (leftOne f x y)) (tip (rightOne f x y)))
+  feet-become f a b x y h k =
+      ap₂ (λ (u v : Dig). rise D (f .above) (H D (rise D (f .left) u) (rise D (f .right) v))) (by-left (f .crossed)) (by-right (f .crossed))
+      ∙ rise-two D f _ _
     where
       by-left : (c : Bool) → (pick c b a) .becomes ≡ hashOf D (tip (pick c y x))
       by-left true = k
@@ -70,15 +74,16 @@ module _ (D : List ℕ → Dig) (DD : (l : List ℕ) → IsDigest (D l)) (w : Wo
   -- ── swap ──
 
   -- what U2 says is what swap asks for
-  swap-fits : (l r v : Way) (c : Bool) (p q : Dig)
-      → (let f : Fork = record { left = l; right = r; above = v; crossed = c } in
-      let a : Edit = leftOne f (record { was = p; becomes = q }) (record { was = q; becomes = p }) in
-      let b : Edit = rightOne f (record { was = p; becomes = q }) (record { was = q; becomes = p }) in
-      noneFits D (s .secret)
-      (u2 (a .was) (b .was) (riseTwo D f (a .was) (b .was)) (b .was) (a .was) (riseTwo D f (a .becomes) (b .becomes)) ∷ [])
-      (note D s (sayTwo D s f a b)) ≡ false)
-  swap-fits l r v true p q = note-fits D (s .secret) _ []
-  swap-fits l r v false p q = note-fits D (s .secret) _ []
+  abbrev SwapFits : Fork → Edit → Type 0
+  SwapFits f e =
+      let a = leftOne f e (turned e) in
+      let b = rightOne f e (turned e) in
+      let y = risenTwo D f a b in
+      noneFits D (s .secret) (u2 (a .was) (b .was) (y .was) (b .was) (a .was) (y .becomes) ∷ []) (note D s (sayU2 a b y)) ≡ false
+
+  fits-by-side : (l r v : Way) (c : Bool) (e : Edit) → SwapFits (record { left = l; right = r; above = v; crossed = c }) e
+  fits-by-side l r v true e = note-fits D (s .secret) _ []
+  fits-by-side l r v false e = note-fits D (s .secret) _ []
 
   pub swap-brings : (A B : ℕ) → A ≢ B → IsListed A (w .items) → IsListed B (w .items)
       → Brings D w (swapLines D s A B T) (rooted s (hashOf D (exchanged (found (isOf A) T) (found (isOf B) T) T))) (w .items)
@@ -87,36 +92,33 @@ module _ (D : List ℕ → Dig) (DD : (l : List ℕ) → IsDigest (D l)) (w : Wo
       let z = found (isOf B) T in
       let hx = of-item D DD w T g A (m .0) (m .1) in
       let hz = of-item D DD w T g B (n .0) (n .1) in
-      let tx = spotted D DD w T g (isOf A) hx in
-      let tz = spotted D DD w T g (isOf B) hz in
-      let other : x ≢ z = λ e. apart (eqb-true A _ (tx .passes) ∙ ap itemOf e ∙ sym (eqb-true B _ (tz .passes))) in
+      let A-is : A ≡ itemOf x = eqb-true A _ (spotted D DD w T g (isOf A) hx .passes) in
+      let B-is : B ≡ itemOf z = eqb-true B _ (spotted D DD w T g (isOf B) hz .passes) in
+      let other : x ≢ z = λ e. apart (A-is ∙ ap itemOf e ∙ sym B-is) in
       let f = forkOf (isOf A) (isOf B) T in
       let fork = forked (isOf A) (isOf B) T hx hz other in
-      let e₁ : Edit = record { was = hashOf D (tip x); becomes = hashOf D (tip z) } in
-      let e₂ : Edit = record { was = hashOf D (tip z); becomes = hashOf D (tip x) } in
-      let a = leftOne f e₁ e₂ in
-      let b = rightOne f e₁ e₂ in
-      let h = sides-are D DD w (g .opened) f e₁ e₂ (record { old = tree-digest D DD (tip x); new = tree-digest D DD (tip z) })
-      (record { old = tree-digest D DD (tip z); new = tree-digest D DD (tip x) }) in
-      let y = riseTwo D f (a .was) (b .was) in
-      let y′ = riseTwo D f (a .becomes) (b .becomes) in
-      let hy = two-digest D DD f (a .was) (b .was) (h .0 .old) (h .1 .old) in
-      let hy′ = two-digest D DD f (a .becomes) (b .becomes) (h .0 .new) (h .1 .new) in
-      let was-root : y ≡ s .root = feet-were f e₁ e₂ x z refl refl ∙ ap (hashOf D) fork ∙ g .root in
-      let once-x : count x (leaves T) ≤ 1 = omega (arith, g .holds x, ring-once (recordHash D) x (w .items) (g .ascending)) in
-      let once-z : count z (leaves T) ≤ 1 = omega (arith, g .holds z, ring-once (recordHash D) z (w .items) (g .ascending)) in
-      let becomes-root : y′ ≡ hashOf D (exchanged x z T) =
-      feet-become f e₁ e₂ z x refl refl ∙ ap (hashOf D) (sym (exchanged-fork x z f T fork once-x once-z)) in
-      let d = note D s (sayTwo D s f a b) in
-      let q = Q.swap (a .was) (b .was) y y′ d in
+      let e : Edit = record { was = hashOf D (tip x); becomes = hashOf D (tip z) } in
+      let he : IsEdit e = record { old = tree-digest D DD (tip x); new = tree-digest D DD (tip z) } in
+      let a = leftOne f e (turned e) in
+      let b = rightOne f e (turned e) in
+      let h = feet-are D DD w (g .opened) f e (turned e) he (record { old = he .new; new = he .old }) in
+      let y = risenTwo D f a b in
+      let hy = risen-two-is D DD f a b (h .0) (h .1) in
+      let was-root : y .was ≡ s .root = feet-were f e (turned e) x z refl refl ∙ ap (hashOf D) fork ∙ g .root in
+      let once : (v : Leaf) → count v (leaves T) ≤ 1 = λ v. omega (arith, g .holds v, ring-once (recordHash D) v (w .items) (g .ascending)) in
+      let becomes-root : y .becomes ≡ hashOf D (exchanged x z T) =
+      feet-become f e (turned e) z x refl refl ∙ ap (hashOf D) (sym (exchanged-fork x z f T fork (once x) (once z))) in
+      let t = sayU2 a b y in
+      let q = Q.swap (a .was) (b .was) (y .was) (y .becomes) (note D s t) in
       let u = two-places D DD w (g .opened) (w .formed) (w .book) f a b (h .0) (h .1) in
       let k = heads-after D DD u
-      (heads-line D DD (at w (u .formed) (u .book)) q [] [] (ei y y′) Does.nothing
-      (h .0 .old, (h .1 .old, (hy, (hy′, (DD (enc (memo (sayTwo D s f a b) (s .secret))), tt)))))
-      (is-open D DD w (g .opened), (swap-fits (f .left) (f .right) (f .above) (f .crossed) (hashOf D (tip x)) (hashOf D (tip z)), tt)) (u .got, tt) refl) in
-      let r = adopt-last D DD w (g .opened) _ y y′ [] hy hy′ was-root k in
+      (heads-line D DD (at w (u .formed) (u .book)) q [] [] (sayEI y) Does.nothing
+      (h .0 .old, (h .1 .old, (hy .old, (hy .new, (DD (enc (memo t (s .secret))), tt)))))
+      (is-open D DD w (g .opened), (fits-by-side (f .left) (f .right) (f .above) (f .crossed) e, tt)) (u .got, tt) refl) in
+      let r = adopt-last D DD w (g .opened) (twoPlaces D s f a b ++ (q ∷ [])) y [] hy was-root k in
       subst (λ (t : Dig). Brings D w (swapLines D s A B T) (rooted s t) (w .items)) becomes-root
-      (subst (λ (qs : List Request). Brings D w qs (rooted s y′) (w .items)) (append-assoc (twoPlaces D s f a b) (q ∷ []) (Q.adopt y y′ (note D s (ei y y′)) ∷ [])) r)
+      (subst (λ (qs : List Request). Brings D w qs (rooted s (y .becomes)) (w .items))
+      (append-assoc (twoPlaces D s f a b) (q ∷ []) (takeOver D s y ∷ [])) r)
 
   -- ── insert ──
 
@@ -126,10 +128,10 @@ module _ (D : List ℕ → Dig) (DD : (l : List ℕ) → IsDigest (D l)) (w : Wo
 
   -- into the empty list
   insert-first : (A : ℕ) → Small A → 0 < A → w .items ≡ []
-      → Brings D w (insertLines D s A T []) (rooted s (alone D s A)) (insert A clearedRecord (w .items))
+      → Brings D w (insertLines D s A T []) (rooted s (alone D s A .becomes)) (insert A clearedRecord (w .items))
   insert-first A small positive e =
       let root : nought ≡ s .root = sym (none-hash D T (λ x. g .holds x ∙ rw e (count-nil x))) ∙ g .root in
-      adopt-last D DD w (g .opened) (Q.first A ∷ []) nought (alone D s A) (insertion A ∷ []) nought-digest (DD _) root
+      adopt-last D DD w (g .opened) (Q.first A ∷ []) (alone D s A) (insertion A ∷ []) (alone-is D DD w (g .opened) A) root
       (first-line D DD w (g .opened) A small positive)
 
   -- beside the leaf whose gap holds A
@@ -144,19 +146,17 @@ module _ (D : List ℕ → Dig) (DD : (l : List ℕ) → IsDigest (D l)) (w : Wo
       let B′ = nextOf x in
       let ω = hashIn x in
       let d = g .decent B (t .held) (t .listed) in
-      let y = rootWith D s f B A B′ ω in
-      let y′ = rootWithout D s f B A B′ ω in
       let hω = subst IsDigest (t .hash-is) (record-digest D DD (t .held)) in
-      let hy = with-digest D DD w (g .opened) f B A B′ ω in
-      let hy′ = without-digest D DD w (g .opened) f B A B′ ω in
-      let root : y′ ≡ s .root = ap (rise D p) (parent-nought (digest D (leaf B B′ ω)) ∙ leaf-digest D x) ∙ t .to-root in
+      let y = without D s f B A B′ ω in
+      let hy = without-is D DD w (g .opened) f B A B′ ω in
+      let root : y .becomes ≡ s .root = ap (rise D p) (parent-nought (digest D (leaf B B′ ω)) ∙ leaf-digest D x) ∙ t .to-root in
       let h = place-lines D DD w (g .opened) f B A B′ ω (d .small) small (t .next-small) hω (d .positive) positive (t .next-positive) (t .passes) in
-      let k = turn-last D DD w (g .opened) (placed D s f B A B′ ω) y y′ (removal A ∷ []) hy hy′ h in
-      let turned = Q.turn y y′ (note D s (ei y y′)) in
-      let r = adopt-last D DD w (g .opened) (placed D s f B A B′ ω ++ (turned ∷ [])) y′ y (insertion A ∷ []) hy′ hy root k in (
-        y,
-        subst (λ (qs : List Request). Brings D w qs (rooted s y) (insert A clearedRecord (w .items)))
-            (append-assoc (placed D s f B A B′ ω) (turned ∷ []) (Q.adopt y′ y (note D s (ei y′ y)) ∷ [])) r,
+      let k = turn-last D DD w (g .opened) (placed D s f B A B′ ω) y (removal A ∷ []) hy h in
+      let r = adopt-last D DD w (g .opened) (placed D s f B A B′ ω ++ (turnRound D s y ∷ [])) (turned y) (insertion A ∷ [])
+      (record { old = hy .new; new = hy .old }) root k in (
+        y .was,
+        subst (λ (qs : List Request). Brings D w qs (rooted s (y .was)) (insert A clearedRecord (w .items)))
+            (append-assoc (placed D s f B A B′ ω) (turnRound D s y ∷ []) (takeOver D s (turned y) ∷ [])) r,
       )
 
   pub insert-brings : (A : ℕ) → Small A → 0 < A → Unlisted A (w .items)
@@ -164,7 +164,7 @@ module _ (D : List ℕ → Dig) (DD : (l : List ℕ) → IsDigest (D l)) (w : Wo
   insert-brings A small positive free = by-items (w .items) refl
     where
       by-items : (l : Items) → w .items ≡ l → (y : Dig) × Brings D w (insertLines D s A T l) (rooted s y) (insert A clearedRecord (w .items))
-      by-items [] e = (alone D s A, insert-first A small positive e)
+      by-items [] e = (alone D s A .becomes, insert-first A small positive e)
       by-items (item a r ∷ l) e =
           let i = spot (recordHash D) A a r l positive (rw e at (g .ascending)) (rw e at free) in
           insert-beside A small positive

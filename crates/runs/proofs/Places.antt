@@ -11,7 +11,7 @@ use Rattle.seqs.specs.Choose.{pick, either}
 use Rattle.paper.specs.Strings.{Dig, H}
 use Rattle.rings.specs.Trees.{Leaf, Leaf-discrete, Tree, empty, tip, branch, leaves, hashOf, count}
 use Rattle.rings.proofs.Counting.{count-nil, count-append, count-single, count-head}
-use Rattle.runs.specs.Ways.{Level, onLeft, onRight, Way, has, found, wayTo, rise, Fork, under, forkOf, riseTwo, leftOne, rightOne, ifYes, theOther, exchanged}
+use Rattle.runs.specs.Ways.{Level, onLeft, onRight, Way, has, found, wayTo, rise, Fork, under, forkOf, leftOne, rightOne, ifYes, theOther, exchanged}
 
 -- ── a tree under a way ──
 
@@ -36,7 +36,8 @@ rise-plug D (onRight S ∷ p) X = rise-plug D p (branch X S)
 abbrev pub plug-two : Fork → (X Y : Tree) → Tree
 plug-two f X Y = plug (f .above) (branch (plug (f .left) X) (plug (f .right) Y))
 
-pub rise-two : (D : List ℕ → Dig) (f : Fork) (X Y : Tree) → riseTwo D f (hashOf D X) (hashOf D Y) ≡ hashOf D (plug-two f X Y)
+pub rise-two : (D : List ℕ → Dig) (f : Fork) (X Y : Tree)
+    → rise D (f .above) (H D (rise D (f .left) (hashOf D X)) (rise D (f .right) (hashOf D Y))) ≡ hashOf D (plug-two f X Y)
 rise-two D f X Y =
     ap₂ (λ (x y : Dig). rise D (f .above) (H D x y)) (rise-plug D (f .left) X) (rise-plug D (f .right) Y)
     ∙ rise-plug D (f .above) (branch (plug (f .left) X) (plug (f .right) Y))

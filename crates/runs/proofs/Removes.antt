@@ -12,7 +12,7 @@ use Rattle.seqs.specs.Choose.{pick}
 use Rattle.seqs.specs.Bytes.{allZero}
 use Rattle.paper.specs.declared.Record.{Record}
 use Rattle.paper.specs.declared.Registers.{Registers}
-use Rattle.paper.specs.Strings.{Dig, nought, ei, leaf, node, digest, inGap, recordHash, H}
+use Rattle.paper.specs.Strings.{Dig, nought, leaf, node, digest, inGap, recordHash, H}
 use Rattle.paper.specs.Requests as Q
 use Rattle.paper.specs.Refusals.{clearedRecord}
 use Rattle.paper.specs.Answers.{rooted}
@@ -25,13 +25,13 @@ use Rattle.rings.proofs.Find.{Near, near}
 use Rattle.rings.proofs.Bridge.{zero-is-nought}
 use Rattle.runs.specs.Run.{Items, World}
 use Rattle.runs.specs.Ways.{itemOf, nextOf, hashIn, isOf, leadsTo, found, forkOf}
-use Rattle.runs.specs.Honest.{note, relinked, gone, rootWith, rootWithout, placed, alone, removeLines}
+use Rattle.runs.specs.Honest.{turned, turnRound, relinked, gone, without, placed, alone, removeLines}
 use Rattle.runs.proofs.Frames.{IsDigest}
-use Rattle.runs.proofs.Climbs.{nought-digest, record-digest, tree-digest}
+use Rattle.runs.proofs.Climbs.{record-digest, tree-digest}
 use Rattle.runs.proofs.Places.{forked}
 use Rattle.runs.proofs.Rings.{one-of-item, one-to-item}
 use Rattle.runs.proofs.Fed.{Brings}
-use Rattle.runs.proofs.Adopts.{turn-last, adopt-last, first-line, with-digest, without-digest, place-lines}
+use Rattle.runs.proofs.Adopts.{turn-last, adopt-last, alone-is, first-line, without-is, place-lines}
 use Rattle.runs.proofs.Asks.{none-hash}
 use Rattle.runs.proofs.Standing.{Ground, leaf-digest, spot-by, spotted}
 use Rattle.runs.proofs.Moves.{feet-were}
@@ -96,11 +96,12 @@ module _ (D : List ℕ → Dig) (DD : (l : List ℕ) → IsDigest (D l)) (w : Wo
       let y = points A A nought in
       let only : (x : Leaf) → count x (leaves T) ≡ one x y =
       λ x. g .holds x ∙ ap (λ (l : Items). count x (ring (recordHash D) l)) e ∙ single x in
-      let root : alone D s A ≡ s .root = sym (one-hash D T y (λ t. tree-digest D DD t .wide) only) ∙ g .root in
-      let k = turn-last D DD w (g .opened) (Q.first A ∷ []) nought (alone D s A) (insertion A ∷ []) nought-digest (DD _)
+      let root : alone D s A .becomes ≡ s .root = sym (one-hash D T y (λ t. tree-digest D DD t .wide) only) ∙ g .root in
+      let ha = alone-is D DD w (g .opened) A in
+      let k = turn-last D DD w (g .opened) (Q.first A ∷ []) (alone D s A) (insertion A ∷ []) ha
       (first-line D DD w (g .opened) A (d .small) (d .positive)) in
-      adopt-last D DD w (g .opened) (Q.first A ∷ Q.turn nought (alone D s A) (note D s (ei nought (alone D s A))) ∷ []) (alone D s A) nought
-      (removal A ∷ []) (DD _) nought-digest root k
+      adopt-last D DD w (g .opened) (Q.first A ∷ turnRound D s (alone D s A) ∷ []) (turned (alone D s A)) (removal A ∷ [])
+      (record { old = ha .new; new = ha .old }) root k
     where
       same-item : (item A clearedRecord ≡ item a r) ⊎ Listed A clearedRecord [] → item A clearedRecord ≡ item a r
       same-item (inl p) = p
@@ -141,20 +142,17 @@ module _ (D : List ℕ → Dig) (DD : (l : List ℕ) → IsDigest (D l)) (w : Wo
       let hω = subst IsDigest (tx .hash-is) (record-digest D DD (tx .held)) in
       let gap : inGap A B B′ ≡ true = (λ k. inGap A (itemOf (x-is k)) (nextOf (z-is k))) ∙ gap-tells (n .gap) in
       let f = forkOf (leadsTo A) (isOf A) T in
-      let y = rootWith D s f B A B′ ω in
-      let y′ = rootWithout D s f B A B′ ω in
+      let y = without D s f B A B′ ω in
       let x-was : digest D (leaf B A ω) ≡ hashOf D (tip x) = ap (λ (k : ℕ). digest D (leaf B k ω)) x-next ∙ leaf-digest D x in
       let empty-z : nought ≡ hashIn z = sym (ap hashIn z-is ∙ no-record-hash D) in
       let z-was : digest D (leaf A B′ nought) ≡ hashOf D (tip z) =
       ap₂ (λ (k : ℕ) (v : Dig). digest D (leaf k B′ v)) z-item empty-z ∙ leaf-digest D z in
-      let root : y ≡ s .root =
+      let root : y .was ≡ s .root =
       feet-were D DD w T g f (relinked D s B A B′ ω) (gone D s A B′) x z x-was z-was
       ∙ ap (hashOf D) (forked (leadsTo A) (isOf A) T hx hz other) ∙ g .root in
-      let h = place-lines D DD w (g .opened) f B A B′ ω (dB .small) (dA .small) (tz .next-small) hω (dB .positive) (dA .positive) (tz .next-positive) gap in (
-        y′,
-        adopt-last D DD w (g .opened) (placed D s f B A B′ ω) y y′ (removal A ∷ []) (with-digest D DD w (g .opened) f B A B′ ω)
-            (without-digest D DD w (g .opened) f B A B′ ω) root h,
-      )
+      let h = place-lines D DD w (g .opened) f B A B′ ω (dB .small) (dA .small) (tz .next-small) hω (dB .positive) (dA .positive)
+      (tz .next-positive) gap in
+      (y .becomes, adopt-last D DD w (g .opened) (placed D s f B A B′ ω) y (removal A ∷ []) (without-is D DD w (g .opened) f B A B′ ω) root h)
 
   pub remove-brings : (A : ℕ) → Listed A clearedRecord (w .items)
       → (y : Dig) × Brings D w (removeLines D s A T (w .items)) (rooted s y) (remove A (w .items))

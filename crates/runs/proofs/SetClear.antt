@@ -15,8 +15,8 @@ use Rattle.paper.specs.Answers.{raised}
 use Rattle.rings.specs.Trees.{Tree}
 use Rattle.rings.specs.Lists.{Listed, putRecord}
 use Rattle.runs.specs.Run.{World}
-use Rattle.runs.specs.Ways.{nextOf, isOf, found, wayTo, rise}
-use Rattle.runs.specs.Honest.{recordOf, note, sayOne, rewritten, setLines, clearLines}
+use Rattle.runs.specs.Ways.{nextOf, isOf, found, wayTo, rise, risen}
+use Rattle.runs.specs.Honest.{recordOf, sayU1, note, rewritten, setLines, clearLines}
 use Rattle.runs.proofs.Accepted.{NoneFails}
 use Rattle.runs.proofs.Widths.{Small}
 use Rattle.runs.proofs.Frames.{IsDigest, Sendable}
@@ -43,7 +43,7 @@ module _ (D : List ℕ → Dig) (DD : (l : List ℕ) → IsDigest (D l)) (w : Wo
     was-root : rise D (wayTo (isOf A) T) (rewritten D s A new T (w .items) .was) ≡ s .root
     was-digest : IsDigest (rise D (wayTo (isOf A) T) (rewritten D s A new T (w .items) .was))
     new-digest : IsDigest (rewrittenRoot A new)
-    note-digest : IsDigest (note D s (sayOne D s (wayTo (isOf A) T) (rewritten D s A new T (w .items))))
+    note-digest : IsDigest (note D s (sayU1 (rewritten D s A new T (w .items)) (risen D (wayTo (isOf A) T) (rewritten D s A new T (w .items)))))
 
   rewrites : (A : ℕ) (r new : Record) → Listed A r (w .items) → Rewrites A r new
   rewrites A r new m =
@@ -58,7 +58,7 @@ module _ (D : List ℕ → Dig) (DD : (l : List ℕ) → IsDigest (D l)) (w : Wo
         was-root = ap (rise D p) (item-digest D DD w T g A r m (isOf A) t (eqb-true A _ (t .passes))) ∙ t .to-root;
         was-digest = rise-digest D DD p (e .was) (DD _);
         new-digest = rise-digest D DD p (e .becomes) (DD _);
-        note-digest = DD (enc (memo (sayOne D s p e) (s .secret)));
+        note-digest = DD (enc (memo (sayU1 e (risen D p e)) (s .secret)));
       }
 
   below-top : (c : ℕ) → c < top → eqb c top ≡ false
@@ -74,7 +74,7 @@ module _ (D : List ℕ → Dig) (DD : (l : List ℕ) → IsDigest (D l)) (w : Wo
       let e = rewritten D s A new T (w .items) in
       let A′ = nextOf (found (isOf A) T) in
       let old = recordOf A (w .items) in
-      let d = note D s (sayOne D s p e) in
+      let d = note D s (sayU1 e (risen D p e)) in
       let q = Q.setTo A A′ old v2 v3 v4 (rise D p (e .was)) (rise D p (e .becomes)) d in
       let h = one-place D DD w (g .opened) (w .formed) (w .book) p e (record { old = DD _; new = DD _ }) in
       let v = at w (h .formed) (h .book) in
@@ -89,7 +89,7 @@ module _ (D : List ℕ → Dig) (DD : (l : List ℕ) → IsDigest (D l)) (w : Wo
       ) in
       let n : NoneFails (needs D s q) = (
         is-open D DD w (g .opened),
-        (not-zero A (u .item .positive), (not-zero A′ (u .spot .next-positive), (u .item .sound, (below-top (s .counter .0) below, (note-fits D (s .secret) (sayOne D s p e) [], (at-root (rise D p (e .was)) (s .root) (u .was-root), tt)))))),
+        (not-zero A (u .item .positive), (not-zero A′ (u .spot .next-positive), (u .item .sound, (below-top (s .counter .0) below, (note-fits D (s .secret) (sayU1 e (risen D p e)) [], (at-root (rise D p (e .was)) (s .root) (u .was-root), tt)))))),
       ) in
       let end = lands D v q ok n in
       after-got D h
@@ -107,7 +107,7 @@ module _ (D : List ℕ → Dig) (DD : (l : List ℕ) → IsDigest (D l)) (w : Wo
       let e = rewritten D s A clearedRecord T (w .items) in
       let A′ = nextOf (found (isOf A) T) in
       let old = recordOf A (w .items) in
-      let d = note D s (sayOne D s p e) in
+      let d = note D s (sayU1 e (risen D p e)) in
       let q = Q.clear A A′ old (rise D p (e .was)) (rise D p (e .becomes)) d in
       let h = one-place D DD w (g .opened) (w .formed) (w .book) p e (record { old = DD _; new = DD _ }) in
       let v = at w (h .formed) (h .book) in
@@ -116,7 +116,7 @@ module _ (D : List ℕ → Dig) (DD : (l : List ℕ) → IsDigest (D l)) (w : Wo
       let not-blank : blank old ≡ false = ap blank (u .record-same) ∙ recorded in
       let n : NoneFails (needs D s q) = (
         is-open D DD w (g .opened),
-        (not-zero A (u .item .positive), (not-zero A′ (u .spot .next-positive), (u .item .sound, (not-blank, (below-top (s .counter .0) below, (note-fits D (s .secret) (sayOne D s p e) [], (at-root (rise D p (e .was)) (s .root) (u .was-root), tt))))))),
+        (not-zero A (u .item .positive), (not-zero A′ (u .spot .next-positive), (u .item .sound, (not-blank, (below-top (s .counter .0) below, (note-fits D (s .secret) (sayU1 e (risen D p e)) [], (at-root (rise D p (e .was)) (s .root) (u .was-root), tt))))))),
       ) in
       let end = lands D v q ok n in
       after-got D h

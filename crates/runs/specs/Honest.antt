@@ -6,145 +6,156 @@ use lib.Dec.{eqb}
 use Rattle.seqs.specs.Choose.{pick}
 use Rattle.paper.specs.declared.Record.{Record}
 use Rattle.paper.specs.declared.Registers.{Registers}
-use Rattle.paper.specs.Strings.{Dig, nought, Memo, u1, v1, u2, ei, leaf, memo, digest, H}
+use Rattle.paper.specs.Strings.{Dig, nought, Memo, u1, v1, u2, ei, leaf, memo, digest}
 use Rattle.paper.specs.Requests.{Request, path, witness, join, pair, raise, swap, first, place, turn, adopt, setTo, clear, ask, askNone, mostSiblings}
 use Rattle.paper.specs.Refusals.{nextRecord, clearedRecord, leafOf}
 use Rattle.rings.specs.Trees.{Tree, tip, hashOf}
 use Rattle.rings.specs.Lists.{item}
 use Rattle.runs.specs.Run.{Items}
 use Rattle.runs.specs.Wishes.{Wish, insertItem, removeItem, swapPlaces, setRecord, clearRecord, askAbout}
-use Rattle.runs.specs.Ways.{itemOf, nextOf, hashIn, isOf, leadsTo, gapHolds, tellsOf, Way, found, wayTo, sidesOf, siblingsOf, rise, cut, Fork, forkOf, halves, riseTwo, leftOne, rightOne}
+use Rattle.runs.specs.Ways.{itemOf, nextOf, hashIn, isOf, leadsTo, gapHolds, tellsOf, Way, found, wayTo, sidesOf, siblingsOf, cut, Fork, forkOf, halves, leftOne, rightOne, Edit, risen, parents, risenTwo}
 
 -- the record of item A in the list
 abbrev pub recordOf : (A : ℕ) → Items → Record
 recordOf A [] = clearedRecord
 recordOf A (item a r ∷ l) = pick (eqb A a) r (recordOf A l)
 
--- a digest in the tree, and the one that takes its place
-pub record Edit : Type 0 where
-  pub was : Dig
-  pub becomes : Dig
+-- ── what memoranda say, of digests that change ──
+
+-- "y is above x, and x changed to x' makes y into y'"
+abbrev pub sayU1 : (x y : Edit) → Memo
+sayU1 x y = u1 (x .was) (y .was) (x .becomes) (y .becomes)
+
+-- "the same as U1 for two separate places"
+abbrev pub sayU2 : (a b y : Edit) → Memo
+sayU2 a b y = u2 (a .was) (b .was) (y .was) (a .becomes) (b .becomes) (y .becomes)
+
+-- "the two roots stand for equally good rings"
+abbrev pub sayEI : (y : Edit) → Memo
+sayEI y = ei (y .was) (y .becomes)
+
+-- a change the other way
+abbrev pub turned : Edit → Edit
+turned y = record { was = y .becomes; becomes = y .was }
 
 module _ (D : List ℕ → Dig) (s : Registers) where
   -- the memorandum that says t, as this module issues it
   abbrev pub note : Memo → Dig
   note t = digest D (memo t (s .secret))
 
-  -- ── one place: U1 up a way of any length ──
-
-  -- what U1 then says
-  abbrev pub sayOne : Way → Edit → Memo
-  sayOne p e = u1 (e .was) (rise D p (e .was)) (e .becomes) (rise D p (e .becomes))
+  -- ── U1 up a way of any length ──
 
   -- a path of at most 64 levels
-  abbrev pub alongPath : Way → Edit → Request
-  alongPath p e = path (e .was) (e .becomes) (sidesOf p) (siblingsOf D p)
+  abbrev pub pathUp : Way → Edit → Request
+  pathUp p x = path (x .was) (x .becomes) (sidesOf p) (siblingsOf D p)
 
-  -- the paths above, each joined to what is below it; e is at the foot, and has risen to a
-  abbrev pub joined : (e a : Edit) → List Way → List Request
-  joined e a [] = []
-  joined e a (p ∷ ps) =
-      let b : Edit = record { was = rise D p (a .was); becomes = rise D p (a .becomes) } in
-      let below = u1 (e .was) (a .was) (e .becomes) (a .becomes) in
-      alongPath p a
-      ∷ join (e .was) (a .was) (e .becomes) (a .becomes) (note below) (b .was) (b .becomes) (note (sayOne p a))
-      ∷ joined e b ps
+  -- U1 from x to y and from y to z
+  abbrev pub joinUp : (x y z : Edit) → Request
+  joinUp x y z =
+      join (x .was) (y .was) (x .becomes) (y .becomes) (note (sayU1 x y)) (z .was) (z .becomes) (note (sayU1 y z))
+
+  -- U1 from x to y, and paths above y, each joined to what is below it
+  abbrev pub further : (x y : Edit) → List Way → List Request
+  further x y [] = []
+  further x y (p ∷ ps) = pathUp p y ∷ joinUp x y (risen D p y) ∷ further x (risen D p y) ps
 
   abbrev pub onePlace : Way → Edit → List Request
-  onePlace p e =
+  onePlace p x =
       let c = cut mostSiblings p in
-      alongPath (c .lowest) e
-      ∷ joined e (record { was = rise D (c .lowest) (e .was); becomes = rise D (c .lowest) (e .becomes) }) (c .higher)
+      pathUp (c .lowest) x ∷ further x (risen D (c .lowest) x) (c .higher)
 
-  -- ── two places: U2 up a fork, a being at its left foot and b at its right ──
+  -- ── U2 up a fork, a being at its left foot and b at its right ──
 
-  abbrev pub sayTwo : Fork → (a b : Edit) → Memo
-  sayTwo f a b =
-      u2 (a .was) (b .was) (riseTwo D f (a .was) (b .was)) (a .becomes) (b .becomes) (riseTwo D f (a .becomes) (b .becomes))
+  -- U1 from a to y and from b to z, the two halves of a node
+  abbrev pub pairUp : (a y b z : Edit) → Request
+  pairUp a y b z =
+      pair (a .was) (y .was) (a .becomes) (y .becomes) (note (sayU1 a y)) (b .was) (z .was) (b .becomes) (z .becomes) (note (sayU1 b z))
+
+  -- U2 from a and b to y, and U1 from y to z
+  abbrev pub raiseUp : (a b y z : Edit) → Request
+  raiseUp a b y z =
+      raise (a .was) (b .was) (y .was) (a .becomes) (b .becomes) (y .becomes) (note (sayU2 a b y)) (z .was) (z .becomes) (note (sayU1 y z))
 
   abbrev pub twoPlaces : Fork → (a b : Edit) → List Request
   twoPlaces f a b =
-      -- the two halves of the node where the ways meet, and the node itself
-      let y : Edit = record { was = rise D (f .left) (a .was); becomes = rise D (f .left) (a .becomes) } in
-      let z : Edit = record { was = rise D (f .right) (b .was); becomes = rise D (f .right) (b .becomes) } in
-      let n : Edit = record { was = H D (y .was) (z .was); becomes = H D (y .becomes) (z .becomes) } in
-      let t : Edit = record { was = rise D (f .above) (n .was); becomes = rise D (f .above) (n .becomes) } in
-      let at-node = u2 (a .was) (b .was) (n .was) (a .becomes) (b .becomes) (n .becomes) in
+      let y = risen D (f .left) a in
+      let z = risen D (f .right) b in
+      let n = parents D y z in
       onePlace (f .left) a
-      ++ (onePlace (f .right) b
-      ++ (pair (a .was) (y .was) (a .becomes) (y .becomes) (note (sayOne (f .left) a)) (b .was) (z .was) (b .becomes) (z .becomes)
-      (note (sayOne (f .right) b))
-      ∷ (onePlace (f .above) n
-      ++ (raise (a .was) (b .was) (n .was) (a .becomes) (b .becomes) (n .becomes) (note at-node) (t .was) (t .becomes)
-      (note (sayOne (f .above) n)) ∷ []))))
+      ++ (onePlace (f .right) b ++ (pairUp a y b z ∷ (onePlace (f .above) n ++ (raiseUp a b n (risen D (f .above) n) ∷ []))))
+
+  -- ── EI, turned round or adopted ──
+
+  abbrev pub turnRound : (root : Edit) → Request
+  turnRound y = turn (y .was) (y .becomes) (note (sayEI y))
+
+  abbrev pub takeOver : (root : Edit) → Request
+  takeOver y = adopt (y .was) (y .becomes) (note (sayEI y))
 
   -- ── insert and remove ──
 
-  -- "x1 is leaf(A,A',ω), x1' is leaf(A,B',ω), x2 is leaf(A',B',0), x2' is 0": the item before loses A, and A goes
+  -- Place: "x1 is leaf(A,A',ω), x1' is leaf(A,B',ω), x2 is leaf(A',B',0), x2' is 0". Here item A stands between B and B′: the
+  -- leaf of B leads past it, and its own leaf goes
   abbrev pub relinked : (B A B′ : ℕ) (ω : Dig) → Edit
   relinked B A B′ ω = record { was = digest D (leaf B A ω); becomes = digest D (leaf B B′ ω) }
 
   abbrev pub gone : (A B′ : ℕ) → Edit
   gone A B′ = record { was = digest D (leaf A B′ nought); becomes = nought }
 
-  -- the root with A between B and B′, and the root without
-  abbrev pub rootWith : Fork → (B A B′ : ℕ) (ω : Dig) → Dig
-  rootWith f B A B′ ω =
-      riseTwo D f (leftOne f (relinked B A B′ ω) (gone A B′) .was) (rightOne f (relinked B A B′ ω) (gone A B′) .was)
+  abbrev pub onLeftFoot : Fork → (B A B′ : ℕ) (ω : Dig) → Edit
+  onLeftFoot f B A B′ ω = leftOne f (relinked B A B′ ω) (gone A B′)
 
-  abbrev pub rootWithout : Fork → (B A B′ : ℕ) (ω : Dig) → Dig
-  rootWithout f B A B′ ω =
-      riseTwo D f (leftOne f (relinked B A B′ ω) (gone A B′) .becomes) (rightOne f (relinked B A B′ ω) (gone A B′) .becomes)
+  abbrev pub onRightFoot : Fork → (B A B′ : ℕ) (ω : Dig) → Edit
+  onRightFoot f B A B′ ω = rightOne f (relinked B A B′ ω) (gone A B′)
 
-  -- place: EI from the one to the other
+  -- from the root with A to the root without
+  abbrev pub without : Fork → (B A B′ : ℕ) (ω : Dig) → Edit
+  without f B A B′ ω = risenTwo D f (onLeftFoot f B A B′ ω) (onRightFoot f B A B′ ω)
+
+  -- its EI, by place
   abbrev pub placed : Fork → (B A B′ : ℕ) (ω : Dig) → List Request
   placed f B A B′ ω =
-      let a = leftOne f (relinked B A B′ ω) (gone A B′) in
-      let b = rightOne f (relinked B A B′ ω) (gone A B′) in
-      twoPlaces f a b ++ (place B A B′ ω (rootWith f B A B′ ω) (rootWithout f B A B′ ω) (note (sayTwo f a b)) ∷ [])
+      let a = onLeftFoot f B A B′ ω in
+      let b = onRightFoot f B A B′ ω in
+      let y = without f B A B′ ω in
+      twoPlaces f a b ++ (place B A B′ ω (y .was) (y .becomes) (note (sayU2 a b y)) ∷ [])
 
-  -- the only leaf of the only item A
-  abbrev pub alone : (A : ℕ) → Dig
-  alone A = digest D (leaf A A nought)
+  -- from the root of the empty list to that of item A alone
+  abbrev pub alone : (A : ℕ) → Edit
+  alone A = record { was = nought; becomes = digest D (leaf A A nought) }
 
   -- into the empty list by first; else the leaf whose gap holds A becomes two leaves under one node, and place is turned
-  -- round, since "turned round, the EI inserts"
+  -- round: "turned round, the EI inserts"
   abbrev pub insertLines : (A : ℕ) → Tree → Items → List Request
-  insertLines A T [] = first A ∷ adopt nought (alone A) (note (ei nought (alone A))) ∷ []
+  insertLines A T [] = first A ∷ takeOver (alone A) ∷ []
   insertLines A T (i ∷ l) =
       let x = found (gapHolds A) T in
       let f = halves (wayTo (gapHolds A) T) in
-      let y = rootWith f (itemOf x) A (nextOf x) (hashIn x) in
-      let y′ = rootWithout f (itemOf x) A (nextOf x) (hashIn x) in
-      placed f (itemOf x) A (nextOf x) (hashIn x) ++ (turn y y′ (note (ei y y′)) ∷ adopt y′ y (note (ei y′ y)) ∷ [])
+      let y = without f (itemOf x) A (nextOf x) (hashIn x) in
+      placed f (itemOf x) A (nextOf x) (hashIn x) ++ (turnRound y ∷ takeOver (turned y) ∷ [])
 
-  -- the only item by first, turned round; else place with the leaf that leads to A and A's own, in whichever order they stand
+  -- the only item by first, turned round; else by place, the leaf that leads to A and A's own in whichever order they stand
   abbrev pub removeLines : (A : ℕ) → Tree → Items → List Request
   removeLines A T [] = []
-  removeLines A T (i ∷ []) =
-      first A ∷ turn nought (alone A) (note (ei nought (alone A))) ∷ adopt (alone A) nought (note (ei (alone A) nought)) ∷ []
+  removeLines A T (i ∷ []) = first A ∷ turnRound (alone A) ∷ takeOver (turned (alone A)) ∷ []
   removeLines A T (i ∷ j ∷ l) =
       let x = found (leadsTo A) T in
       let z = found (isOf A) T in
       let f = forkOf (leadsTo A) (isOf A) T in
-      let y = rootWith f (itemOf x) A (nextOf z) (hashIn x) in
-      let y′ = rootWithout f (itemOf x) A (nextOf z) (hashIn x) in
-      placed f (itemOf x) A (nextOf z) (hashIn x) ++ (adopt y y′ (note (ei y y′)) ∷ [])
+      placed f (itemOf x) A (nextOf z) (hashIn x) ++ (takeOver (without f (itemOf x) A (nextOf z) (hashIn x)) ∷ [])
 
   -- ── swap ──
 
   abbrev pub swapLines : (A B : ℕ) → Tree → List Request
   swapLines A B T =
-      let x = hashOf D (tip (found (isOf A) T)) in
-      let z = hashOf D (tip (found (isOf B) T)) in
+      let e : Edit = record { was = hashOf D (tip (found (isOf A) T)); becomes = hashOf D (tip (found (isOf B) T)) } in
       let f = forkOf (isOf A) (isOf B) T in
-      let a : Edit = leftOne f (record { was = x; becomes = z }) (record { was = z; becomes = x }) in
-      let b : Edit = rightOne f (record { was = x; becomes = z }) (record { was = z; becomes = x }) in
-      let y = riseTwo D f (a .was) (b .was) in
-      let y′ = riseTwo D f (a .becomes) (b .becomes) in
-      twoPlaces f a b ++ (swap (a .was) (b .was) y y′ (note (sayTwo f a b)) ∷ adopt y y′ (note (ei y y′)) ∷ [])
+      let a = leftOne f e (turned e) in
+      let b = rightOne f e (turned e) in
+      let y = risenTwo D f a b in
+      twoPlaces f a b ++ (swap (a .was) (b .was) (y .was) (y .becomes) (note (sayU2 a b y)) ∷ takeOver y ∷ [])
 
-  -- ── set, clear ──
+  -- ── set and clear ──
 
   -- item A's leaf, with its record and with another
   abbrev pub rewritten : (A : ℕ) (new : Record) → Tree → Items → Edit
@@ -154,17 +165,17 @@ module _ (D : List ℕ → Dig) (s : Registers) where
 
   abbrev pub setLines : (A v2 v3 v4 : ℕ) → Tree → Items → List Request
   setLines A v2 v3 v4 T l =
-      let e = rewritten A (nextRecord s v2 v3 v4) T l in
-      let p = wayTo (isOf A) T in
-      onePlace p e
-      ++ (setTo A (nextOf (found (isOf A) T)) (recordOf A l) v2 v3 v4 (rise D p (e .was)) (rise D p (e .becomes)) (note (sayOne p e)) ∷ [])
+      let x = rewritten A (nextRecord s v2 v3 v4) T l in
+      let y = risen D (wayTo (isOf A) T) x in
+      let A′ = nextOf (found (isOf A) T) in
+      onePlace (wayTo (isOf A) T) x ++ (setTo A A′ (recordOf A l) v2 v3 v4 (y .was) (y .becomes) (note (sayU1 x y)) ∷ [])
 
   abbrev pub clearLines : (A : ℕ) → Tree → Items → List Request
   clearLines A T l =
-      let e = rewritten A clearedRecord T l in
-      let p = wayTo (isOf A) T in
-      onePlace p e
-      ++ (clear A (nextOf (found (isOf A) T)) (recordOf A l) (rise D p (e .was)) (rise D p (e .becomes)) (note (sayOne p e)) ∷ [])
+      let x = rewritten A clearedRecord T l in
+      let y = risen D (wayTo (isOf A) T) x in
+      let A′ = nextOf (found (isOf A) T) in
+      onePlace (wayTo (isOf A) T) x ++ (clear A A′ (recordOf A l) (y .was) (y .becomes) (note (sayU1 x y)) ∷ [])
 
   -- ── questions ──
 
@@ -173,11 +184,11 @@ module _ (D : List ℕ → Dig) (s : Registers) where
   leafLines q T l =
       let z = found (tellsOf q) T in
       let r = recordOf (itemOf z) l in
-      let x = digest D (leafOf D (itemOf z) (nextOf z) r) in
-      let p = wayTo (tellsOf q) T in
-      let y = rise D p x in
-      onePlace p (record { was = x; becomes = x })
-      ++ (witness x y (note (u1 x y x y)) ∷ ask q (itemOf z) (nextOf z) r y (note (v1 x y)) ∷ [])
+      let d = digest D (leafOf D (itemOf z) (nextOf z) r) in
+      let x : Edit = record { was = d; becomes = d } in
+      let y = risen D (wayTo (tellsOf q) T) x in
+      onePlace (wayTo (tellsOf q) T) x
+      ++ (witness d (y .was) (note (sayU1 x y)) ∷ ask q (itemOf z) (nextOf z) r (y .was) (note (v1 d (y .was))) ∷ [])
 
   abbrev pub askLines : (q : ℕ) → Tree → Items → List Request
   askLines q T [] = askNone q ∷ []

@@ -1,5 +1,5 @@
--- Where leaves stand in a tree: the way from a leaf up to the root, the ways of two leaves and where they meet, and two
--- leaves that change places.
+-- Where leaves stand in a tree: the way from a leaf up to the root, the ways of two leaves and where they meet, what changes
+-- above a leaf that changes, and two leaves that change places.
 use mathlib.Core.Bool.{Bool, true, false}
 use mathlib.Core.List.{List, [], _∷_, _++_}
 use Prim.Native.Nat.{ℕ, zero, suc, _+_, _-_, _*_}
@@ -125,16 +125,32 @@ forkOf p q (branch l r) =
 abbrev pub halves : Way → Fork
 halves p = record { left = []; right = []; above = p; crossed = false }
 
--- the digest at the root, where x and y are those at the left and the right foot
-abbrev pub riseTwo : (D : List ℕ → Dig) → Fork → (x y : Dig) → Dig
-riseTwo D f x y = rise D (f .above) (H D (rise D (f .left) x) (rise D (f .right) y))
-
 -- of two things, one for each leaf, that of the leaf on the left, and that of the leaf on the right
 abbrev pub leftOne : {A : Type 0} → Fork → A → A → A
 leftOne f a b = pick (f .crossed) b a
 
 abbrev pub rightOne : {A : Type 0} → Fork → A → A → A
 rightOne f a b = pick (f .crossed) a b
+
+-- ── a digest that changes, and what changes above it ──
+
+-- a digest in the tree, and the one that takes its place
+pub record Edit : Type 0 where
+  pub was : Dig
+  pub becomes : Dig
+
+module _ (D : List ℕ → Dig) where
+  -- the change at the top of a way, where e is that at its foot
+  abbrev pub risen : Way → Edit → Edit
+  risen p e = record { was = rise D p (e .was); becomes = rise D p (e .becomes) }
+
+  -- at a node, where a and b are those of its left and its right half
+  abbrev pub parents : (a b : Edit) → Edit
+  parents a b = record { was = H D (a .was) (b .was); becomes = H D (a .becomes) (b .becomes) }
+
+  -- at the root, where a and b are those at the left and the right foot of a fork
+  abbrev pub risenTwo : Fork → (a b : Edit) → Edit
+  risenTwo f a b = risen (f .above) (parents (risen (f .left) a) (risen (f .right) b))
 
 -- ── two leaves that change places ──
 
