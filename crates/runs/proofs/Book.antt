@@ -1,7 +1,7 @@
 -- The book of a run: each memorandum in it is the digest of a string that was formed, and what that string says is so.
 use mathlib.Core.Path.{_≡_, refl, sym, ap, subst, _∙_}
 use mathlib.Core.Bool.{Bool, true, false}
-use mathlib.Core.List.{List, [], _∷_, _++_}
+use mathlib.Core.List.{List, [], _∷_, _++_, append-nil}
 use mathlib.Core.Logic.{_⊎_, inl, inr}
 use Prim.Native.Nat.{ℕ}
 use Rattle.seqs.specs.Choose.{pick, either}
@@ -9,7 +9,7 @@ use Rattle.seqs.specs.Bytes.{same, same-true}
 use Rattle.paper.specs.Strings.{Dig, Memo, Str, leaf, node, entry, memo, digest}
 use Rattle.rings.proofs.Nodes.{_∈_, Within, Fault, same-string}
 use Rattle.rings.proofs.Memos.{Means, means-more}
-use Rattle.runs.specs.Run.{Issue, standsFor, isIssued}
+use Rattle.runs.specs.Run.{Issue, Reading, earliest, last, entered, standsFor, isIssued}
 
 -- what a string says where it is a memorandum's
 abbrev says-of : Str → Memo → Memo
@@ -17,6 +17,10 @@ says-of (memo t k) u = t
 says-of (leaf A A′ ω) u = u
 says-of (node x y) u = u
 says-of (entry r) u = u
+
+pub entered-none : (by : Reading) (b : List Issue) → entered by b [] ≡ b
+entered-none earliest b = append-nil b
+entered-none last b = refl
 
 module _ (D : List ℕ → Dig) where
   pub record Backed (F : List Str) (i : Issue) : Type 0 where
@@ -44,9 +48,14 @@ module _ (D : List ℕ → Dig) where
             means = means-more (digest D) (e .says) (i .does) s (e .means);
           }
 
-  pub book-add : {F : List Str} (b : List Issue) (i : Issue) → Book F b → Backed F i → Book F (b ++ (i ∷ []))
+  book-add : {F : List Str} (b : List Issue) (i : Issue) → Book F b → Backed F i → Book F (b ++ (i ∷ []))
   book-add [] i h e = (e, tt)
   book-add (j ∷ b) i h e = (h .0, book-add b i (h .1) e)
+
+  -- an entry more, or none, whichever way the book is read
+  pub book-enter : {F : List Str} (by : Reading) (b : List Issue) (i : Issue) → Book F b → Backed F i → Book F (entered by b (i ∷ []))
+  book-enter earliest b i h e = book-add b i h e
+  book-enter last b i h e = (e, h)
 
   -- A memorandum with a formed string: what the string says is so and stands for what the book has, or the book does not
   -- have it, or a fault can be shown.

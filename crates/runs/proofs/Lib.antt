@@ -1,5 +1,6 @@
 pub mod Accepted
 pub mod Adopts
+pub mod Also
 pub mod Asks
 pub mod Book
 pub mod Climbs

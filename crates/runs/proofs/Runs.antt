@@ -28,7 +28,7 @@ use Rattle.paper.specs.Collisions.{Collision}
 use Rattle.rings.specs.Endings.{ZeroDigest}
 use Rattle.rings.proofs.Endings.{fault-shows}
 use Rattle.rings.proofs.InPaper.{holds-ring}
-use Rattle.runs.specs.Run.{Turn, earliest, World, start, toldAt, landed, next, after}
+use Rattle.runs.specs.Run.{Turn, Reading, earliest, World, start, toldAt, landed, next, after}
 use Rattle.runs.specs.Endings.{Ending, collision, zero, forged, earlier}
 use Rattle.runs.specs.Safety.{Stands, TrueAnswer, LegalEffect, AllFair, Untouched, Safe, SafeOrEnded, Safety}
 use Rattle.runs.proofs.Accepted.{NoneFails, among, numbered, none-fails, formedAll, judge-passed, accepted-passed, check-formed}
@@ -70,16 +70,16 @@ isPassed (passed fs) = true
 module _ (D : List ℕ → Dig) (D32 : (l : List ℕ) → length (D l) ≡ 32) where
   -- ── what a line comes to, by its answer ──
 
-  abbrev Out : World → Request → Told → Type 0
-  Out w q a =
+  abbrev pub Out : Reading → World → Request → Told → Type 0
+  Out by w q a =
       (Fault (digest D) (a .formed ++ w .formed) ⊎ ((a .refusal ≡ 0) × Forgery D D32 w [] q))
-      ⊎ (Core D D32 (landed D earliest w a) × (a .refusal ≡ 0 → TrueAnswer D q (w .items)) × LegalEffect D w (a .effect))
+      ⊎ (Core D D32 (landed D by w a) × (a .refusal ≡ 0 → TrueAnswer D q (w .items)) × LegalEffect D w (a .effect))
 
-  refused-out : (w : World) (q : Request) (a : Told) → (a .refusal ≡ 0 → ⊥) → a .after ≡ w .registers → a .effect ≡ none′
-      → Core D D32 w → Out w q a
-  refused-out w q a n e f v =
+  refused-out : (by : Reading) (w : World) (q : Request) (a : Told) → (a .refusal ≡ 0 → ⊥) → a .after ≡ w .registers → a .effect ≡ none′
+      → Core D D32 w → Out by w q a
+  refused-out by w q a n e f v =
       inr (
-        kept-core D D32 w a (ap (λ (r : Registers). r .root) e) (ap (λ (r : Registers). r .counter) e) f v,
+        kept-core D D32 by w a (ap (λ (r : Registers). r .root) e) (ap (λ (r : Registers). r .counter) e) f v,
         (λ z. absurd (n z)),
         rw f tt,
       )
@@ -112,19 +112,19 @@ module _ (D : List ℕ → Dig) (D32 : (l : List ℕ) → length (D l) ≡ 32) w
           wide = h;
         }
 
-    by-verdict : (v : Verdict) → judge late [] cs ≡ v → Wide q → Core D D32 w → Out w q (told D s kind q v)
+    by-verdict : (by : Reading) (v : Verdict) → judge late [] cs ≡ v → Wide q → Core D D32 w → Out by w q (told D s kind q v)
     unfolding isPassed
-    by-verdict (refused n fs) e h c = refused-out w q (told D s kind q (refused n fs)) zero-not refl refl c
+    by-verdict by (refused n fs) e h c = refused-out by w q (told D s kind q (refused n fs)) zero-not refl refl c
       where
         zero-not : n ≡ 0 → ⊥
         zero-not z =
             let p = passes (ap (λ (v : Verdict). told D s kind q v .refusal) e ∙ z) in
             true≢false (ap isPassed (sym (judge-passed late [] cs p) ∙ e))
-    by-verdict (passed fs) e h c = landing (accepted D D32 w kind fs c q (given fs e h))
+    by-verdict by (passed fs) e h c = landing (accepted D D32 by w kind fs c q (given fs e h))
       where
         landing : (Fault (digest D) ((answer D s q .forms ++ fs) ++ w .formed) ⊎ Forgery D D32 w ((answer D s q .forms ++ fs) ++ w .formed) q)
-            ⊎ (Core D D32 (landed D earliest w (told D s kind q (passed fs))) × TrueAnswer D q (w .items) × LegalEffect D w (answer D s q .effect))
-            → Out w q (told D s kind q (passed fs))
+            ⊎ (Core D D32 (landed D by w (told D s kind q (passed fs))) × TrueAnswer D q (w .items) × LegalEffect D w (answer D s q .effect))
+            → Out by w q (told D s kind q (passed fs))
         landing (inl (inl f)) = inl (inl f)
         landing (inl (inr f)) = inl (inr (refl, f))
         landing (inr r) = inr (r .0, (λ z. r .1), r .2)
@@ -316,19 +316,19 @@ module _ (D : List ℕ → Dig) (D32 : (l : List ℕ) → length (D l) ≡ 32) w
   line-bytes (a ∷ []) = tt
   line-bytes (a ∷ b ∷ l) = (omega (arith, value-small a, value-small b), line-bytes l)
 
-  abbrev asked : Turn → Request
+  abbrev pub asked : Turn → Request
   asked t = requestOf (bytesOf (t .line))
 
-  line-out : (w : World) (t : Turn) → Core D D32 w → Out w (asked t) (toldAt D w t)
-  line-out w t c = by-sort (sorted D (w .registers) (t .line) (t .space))
+  pub line-out : (by : Reading) (w : World) (t : Turn) → Core D D32 w → Out by w (asked t) (toldAt D w t)
+  line-out by w t c = by-sort (sorted D (w .registers) (t .line) (t .space))
     where
-      by-sort : Sorted D (w .registers) (t .line) (t .space) → Out w (asked t) (toldAt D w t)
+      by-sort : Sorted D (w .registers) (t .line) (t .space) → Out by w (asked t) (toldAt D w t)
       by-sort (early n z e) =
           let a = told D (w .registers) (kindOf (bytesOf (t .line))) (asked t) (refused n []) in
-          subst (Out w (asked t)) (sym e) (refused-out w (asked t) a z refl refl c)
+          subst (Out by w (asked t)) (sym e) (refused-out by w (asked t) a z refl refl c)
       by-sort (on-time h i j l e) =
           let f = bytesOf (t .line) in
-          subst (Out w (asked t)) (sym e) (by-verdict w (kindOf f) (asked t) _ refl (wide f (line-bytes (t .line)) j l) c)
+          subst (Out by w (asked t)) (sym e) (by-verdict w (kindOf f) (asked t) by _ refl (wide f (line-bytes (t .line)) j l) c)
 
   line-side : (k : Dig) (w : World) (t : Turn) → Side k w → Side k (next D earliest w t)
   line-side k w t v = by-sort (sorted D (w .registers) (t .line) (t .space))
@@ -353,7 +353,7 @@ module _ (D : List ℕ → Dig) (D32 : (l : List ℕ) → length (D l) ≡ 32) w
       }
   side k (t ∷ ts) = line-side k (after D k ts) t (side k ts)
 
-  core-start : (k : Dig) → Core D D32 (start D k)
+  pub core-start : (k : Dig) → Core D D32 (start D k)
   core-start k =
       record {
         tree = empty;
@@ -364,7 +364,7 @@ module _ (D : List ℕ → Dig) (D32 : (l : List ℕ) → length (D l) ≡ 32) w
       }
 
   -- a fault among the strings of a run is one of its endings
-  shown : (k : Dig) (ts : List Turn) → Fault (digest D) (after D k ts .formed) → Ending D k ts
+  pub shown : (k : Dig) (ts : List Turn) → Fault (digest D) (after D k ts .formed) → Ending D k ts
   shown k ts f = by-kind (fault-shows (λ s i. well-at (after D k ts .formed) s (side k ts .well) i) f)
     where
       by-kind : Collision D (after D k ts .formed) ⊎ ZeroDigest D (after D k ts .formed) → Ending D k ts
@@ -375,7 +375,7 @@ module _ (D : List ℕ → Dig) (D32 : (l : List ℕ) → length (D l) ≡ 32) w
   run k [] = inr (core-start k, tt)
   run k (t ∷ ts) = on (run k ts)
     where
-      land : AllFair D k ts → Out (after D k ts) (asked t) (toldAt D (after D k ts) t)
+      land : AllFair D k ts → Out earliest (after D k ts) (asked t) (toldAt D (after D k ts) t)
           → Ending D k (t ∷ ts) ⊎ (Core D D32 (after D k (t ∷ ts)) × AllFair D k (t ∷ ts))
       land f (inl (inl x)) = inl (shown k (t ∷ ts) x)
       land f (inl (inr x)) =
@@ -385,7 +385,7 @@ module _ (D : List ℕ → Dig) (D32 : (l : List ℕ) → length (D l) ≡ 32) w
       on : Ending D k ts ⊎ (Core D D32 (after D k ts) × AllFair D k ts)
           → Ending D k (t ∷ ts) ⊎ (Core D D32 (after D k (t ∷ ts)) × AllFair D k (t ∷ ts))
       on (inl e) = inl (earlier t e)
-      on (inr x) = land (x .1) (line-out (after D k ts) t (x .0))
+      on (inr x) = land (x .1) (line-out earliest (after D k ts) t (x .0))
 
   pub stands-of : (w : World) → Core D D32 w → Stands D w
   stands-of w c =

@@ -2,7 +2,7 @@
 -- half).
 use mathlib.Core.Path.{_≡_, refl, sym, ap, subst, _∙_}
 use mathlib.Core.Bool.{Bool, true, false}
-use mathlib.Core.List.{List, [], _∷_, _++_, append-nil, List·Memᴰ, List·Memᴰ·head, Memᴰ·append-left, Memᴰ·append-right}
+use mathlib.Core.List.{List, [], _∷_, _++_, List·Memᴰ, List·Memᴰ·head, Memᴰ·append-left, Memᴰ·append-right}
 use mathlib.Core.Logic.{_⊎_, inl, inr}
 use Prim.Native.Nat.{ℕ, _+_}
 use borrow.Author.Tests.{eqb-true}
@@ -26,9 +26,9 @@ use Rattle.rings.proofs.Records.{Known, known-empty, known-recorded}
 use Rattle.rings.proofs.Bridge.{hash-is, known-by}
 use Rattle.rings.proofs.ListKinds as L
 use Rattle.rings.proofs.InPaper as P
-use Rattle.runs.specs.Run.{Items, earliest, World, meaning, landed, after}
+use Rattle.runs.specs.Run.{Reading, Items, World, meaning, landed}
 use Rattle.runs.specs.Safety.{TrueFinding, TrueAnswer, LegalEffect}
-use Rattle.runs.proofs.Book.{Book, book-more, book-add}
+use Rattle.runs.proofs.Book.{entered-none, Book, book-more, book-enter}
 use Rattle.runs.proofs.Effects as E
 use Rattle.runs.proofs.Effects.{Given, Or, opposite-false}
 
@@ -59,14 +59,14 @@ module _ (D : List ℕ → Dig) (D32 : (l : List ℕ) → length (D l) ≡ 32) w
 
   -- ── a line that changes nothing but the strings ──
 
-  pub kept-core : (w : World) (a : Told) → a .after .root ≡ w .registers .root → a .after .counter ≡ w .registers .counter
-      → a .effect ≡ none′ → Core w → Core (landed D earliest w a)
-  kept-core w a r c e v =
+  pub kept-core : (by : Reading) (w : World) (a : Told) → a .after .root ≡ w .registers .root → a .after .counter ≡ w .registers .counter
+      → a .effect ≡ none′ → Core w → Core (landed D by w a)
+  kept-core by w a r c e v =
       record {
         tree = v .tree;
         root = v .root ∙ sym r;
         stands = rw e (stands-more (digest D) (more a w) (v .stands));
-        book = rw (e, append-nil (w .book)) (book-more D (w .book) (more a w) (v .book));
+        book = rw (e, entered-none by (w .book)) (book-more D (w .book) (more a w) (v .book));
         counter = rw e (ap (λ (x : _). x .0) c ∙ v .counter);
       }
 
@@ -84,7 +84,7 @@ module _ (D : List ℕ → Dig) (D32 : (l : List ℕ) → length (D l) ≡ 32) w
 
   -- ── an accepted line ──
 
-  module _ (w : World) (kind : ℕ) (fs : List Str) where
+  module _ (by : Reading) (w : World) (kind : ℕ) (fs : List Str) where
     abbrev s : Registers
     s = w .registers
 
@@ -97,7 +97,7 @@ module _ (D : List ℕ → Dig) (D32 : (l : List ℕ) → length (D l) ≡ 32) w
     -- what it comes to
     abbrev pub Comes : Request → Type 0
     Comes q =
-        Or D D32 w (G q) q (Core (landed D earliest w (a q)) × TrueAnswer D q (w .items) × LegalEffect D w (a q .effect))
+        Or D D32 w (G q) q (Core (landed D by w (a q)) × TrueAnswer D q (w .items) × LegalEffect D w (a q .effect))
 
     infixl 1 _>>=_
     _>>=_ : {E A B : Type 0} → E ⊎ A → (A → E ⊎ B) → E ⊎ B
@@ -113,7 +113,7 @@ module _ (D : List ℕ → Dig) (D32 : (l : List ℕ) → length (D l) ≡ 32) w
 
       -- a line that issues a memorandum whose meaning is known
       issued : (q : Request) (t : Memo) (c : Change) → answer D s q .after ≡ s → answer D s q .effect ≡ issues t c
-          → memo t (s .secret) ∈ G q → Means (digest D) (G q) t (meaning (w .book) c) → Core (landed D earliest w (a q))
+          → memo t (s .secret) ∈ G q → Means (digest D) (G q) t (meaning (w .book) c) → Core (landed D by w (a q))
       issued q t c e₁ e₂ i m =
           record {
             tree = v .tree;
@@ -121,7 +121,7 @@ module _ (D : List ℕ → Dig) (D32 : (l : List ℕ) → length (D l) ≡ 32) w
             stands = rw e₂ (standing q);
             book =
                 rw e₂
-                (book-add D (w .book) _ (backed q)
+                (book-enter D by (w .book) _ (backed q)
                 (record { says = t; key = s .secret; formed = i; memorandum-is = refl; means = m }));
             counter = rw e₂ (ap (λ (r : Registers). r .counter .0) e₁ ∙ v .counter);
           }
@@ -148,7 +148,7 @@ module _ (D : List ℕ → Dig) (D32 : (l : List ℕ) → length (D l) ≡ 32) w
             tree = p .tree;
             root = hash-is D D32 (p .tree) ∙ p .tree-hash ∙ sym e₁;
             stands = rw e₃ (p .stands);
-            book = rw (e₃, append-nil (w .book)) (backed q);
+            book = rw (e₃, entered-none by (w .book)) (backed q);
             counter = rw e₃ (e₂ ∙ ap (λ (n : ℕ). n + 1) (v .counter));
           },
           tr,
@@ -194,7 +194,7 @@ module _ (D : List ℕ → Dig) (D32 : (l : List ℕ) → length (D l) ≡ 32) w
             tree = p .tree;
             root = hash-is D D32 (p .tree) ∙ p .tree-hash;
             stands = p .stands;
-            book = rw (append-nil (w .book)) (backed q);
+            book = rw (entered-none by (w .book)) (backed q);
             counter = v .counter;
           },
           tt,
@@ -212,9 +212,9 @@ module _ (D : List ℕ → Dig) (D32 : (l : List ℕ) → length (D l) ≡ 32) w
         let h = g .none-fails .1 .1 .1 .1
         let p = Q.ask q A A′ r y m
         f ← E.ask D D32 w (G p) (backed p) (v .tree) (v .root) (standing p) q A A′ r y m g
-        inr (kept-core w (a p) refl refl refl v, true-finding (w .formed) (w .items) q A A′ r (h .0) (opposite-false _ (h .1 .0)) f, tt)
+        inr (kept-core by w (a p) refl refl refl v, true-finding (w .formed) (w .items) q A A′ r (h .0) (opposite-false _ (h .1 .0)) f, tt)
       accepted (Q.askNone q) g = do
         let p = Q.askNone q
         f ← E.ask-none D D32 w (G p) (backed p) (v .tree) (v .root) (standing p) q g
-        inr (kept-core w (a p) refl refl refl v, f, tt)
-      accepted (Q.unlock k) g = inr (kept-core w (a (Q.unlock k)) refl refl refl v, tt, tt)
+        inr (kept-core by w (a p) refl refl refl v, f, tt)
+      accepted (Q.unlock k) g = inr (kept-core by w (a (Q.unlock k)) refl refl refl v, tt, tt)

@@ -6,3 +6,4 @@ pub mod Wishes
 pub mod Ways
 pub mod Honest
 pub mod Liveness
+pub mod Also

@@ -98,6 +98,9 @@ module _ (D : List ℕ → Dig) where
   abbrev pub toldAt : World → Turn → Told
   toldAt w t = answerTo D (w .registers) (t .line) (t .space)
 
+  abbrev pub start : (secret : Dig) → World
+  start k = record { registers = unopened k; formed = []; book = []; items = []; changed = 0 }
+
   module _ (by : Reading) where
     abbrev pub landed : World → Told → World
     landed w a =
@@ -112,10 +115,11 @@ module _ (D : List ℕ → Dig) where
     abbrev pub next : World → Turn → World
     next w t = landed w (toldAt w t)
 
-  abbrev pub start : (secret : Dig) → World
-  start k = record { registers = unopened k; formed = []; book = []; items = []; changed = 0 }
+    -- the world after some turns, the latest first
+    abbrev pub replay : (secret : Dig) → List Turn → World
+    replay k [] = start k
+    replay k (t ∷ ts) = next (replay k ts) t
 
-  -- the world after some turns, the latest first
+  -- "A memorandum stands for what the earliest line that issued it does"
   abbrev pub after : (secret : Dig) → List Turn → World
-  after k [] = start k
-  after k (t ∷ ts) = next earliest (after k ts) t
+  after k ts = replay earliest k ts

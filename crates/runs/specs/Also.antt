@@ -1,0 +1,68 @@
+-- What else holds of runs: the root settles the list; both readings of memoranda come to one list; the endings are the only
+-- way out; and what is read by the earliest line stays as that line meant it.
+use mathlib.Core.Path.{_≡_}
+use mathlib.Core.Bool.{true}
+use mathlib.Core.List.{List, [], _∷_, _++_}
+use mathlib.Core.Logic.{_⊎_}
+use Prim.Native.Nat.{ℕ}
+use lib.ListN.{length}
+use Rattle.sha256.specs.Hash.{sha256}
+use Rattle.paper.specs.Strings.{Dig, Str}
+use Rattle.paper.specs.Collisions.{Collision}
+use Rattle.rings.specs.Endings.{ZeroDigest}
+use Rattle.runs.specs.Run.{Turn, standsFor, isIssued, after}
+use Rattle.runs.specs.Endings.{Forged, Ending}
+use Rattle.runs.specs.Safety.{Safe}
+use Rattle.runs.specs.Liveness.{latestFirst, fed}
+
+-- further lines, in order, behind those of a run, the latest first
+abbrev pub onwards : (further run : List Turn) → List Turn
+onwards [] ts = ts
+onwards (t ∷ us) ts = onwards us (t ∷ ts)
+
+module _ (D : List ℕ → Dig) where
+  -- two different strings with one digest among some, or one whose digest is all zero
+  abbrev pub Shown : List Str → Type 0
+  Shown F = Collision D F ⊎ ZeroDigest D F
+
+  -- two runs with one root have one list, or one of them has ended, or among the strings that they formed something can be
+  -- shown
+  abbrev pub RootSettlesList : Type 0
+  RootSettlesList =
+      (k k′ : Dig) (ts us : List Turn) → after D k ts .registers .root ≡ after D k′ us .registers .root
+      → (Ending D k ts ⊎ Ending D k′ us)
+      ⊎ (Shown (after D k ts .formed ++ after D k′ us .formed) ⊎ (after D k ts .items ≡ after D k′ us .items))
+
+  -- Any further lines come to the same list whether each memorandum is read by the earliest line that issued it or by the
+  -- last, or the run ends. So what honest lines do by the one reading they do by the other, and so does a run from its start.
+  abbrev pub ReadingsAgree : Type 0
+  ReadingsAgree =
+      (k : Dig) (ts us : List Turn)
+      → Ending D k (onwards us ts) ⊎ (fed D (latestFirst (after D k ts)) us .items ≡ after D k (onwards us ts) .items)
+
+  -- a line of the run was accepted with a memorandum that no earlier line issued
+  abbrev pub AnyForged : (secret : Dig) → List Turn → Type 0
+  AnyForged k [] = ⊥
+  AnyForged k (t ∷ ts) = Forged D (after D k ts) t ⊎ AnyForged k ts
+
+  -- without a collision or an all-zero digest among the strings formed, and without a forged memorandum, a run is safe
+  abbrev pub NoOtherWayOut : Type 0
+  NoOtherWayOut =
+      (k : Dig) (ts : List Turn) → (Shown (after D k ts .formed) → ⊥) → (AnyForged k ts → ⊥) → Safe D k ts
+
+  -- "A memorandum stands for what the earliest line that issued it does": whatever lines follow
+  abbrev pub EarliestStays : Type 0
+  EarliestStays =
+      (k : Dig) (ts : List Turn) (t : Turn) (m : Dig) → isIssued m (after D k ts .book) ≡ true
+      → standsFor m (after D k (t ∷ ts) .book) ≡ standsFor m (after D k ts .book)
+
+  pub record AlsoFor : Type 0 where
+    pub root-settles : RootSettlesList
+    pub readings-agree : ReadingsAgree
+    pub no-other-way-out : NoOtherWayOut
+    pub earliest-stays : EarliestStays
+
+-- for SHA-256, and for any digest of 32 bytes
+pub record Also : Type 0 where
+  pub at-sha256 : AlsoFor sha256
+  pub at-any : (D : List ℕ → Dig) → ((l : List ℕ) → length (D l) ≡ 32) → AlsoFor D
