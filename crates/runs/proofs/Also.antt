@@ -17,7 +17,7 @@ use Rattle.rings.proofs.Nodes.{Within, Fault}
 use Rattle.rings.proofs.Memos.{StandsFor, stands-more}
 use Rattle.rings.proofs.Endings.{fault-shows}
 use Rattle.rings.proofs.InPaper.{same-list}
-use Rattle.runs.specs.Run.{Turn, Issue, Reading, earliest, last, entered, standsFor, isIssued, World, issuedBy, toldAt, next, after}
+use Rattle.runs.specs.Run.{Turn, Issue, Reading, earliest, last, ofRuns, entered, standsFor, isIssued, World, issuedBy, toldAt, next, after}
 use Rattle.runs.specs.Endings.{Ending, collision, zero, forged, earlier}
 use Rattle.runs.specs.Safety.{AllFair, Safe, SafeOrEnded}
 use Rattle.runs.specs.Liveness.{latestFirst, fed}
@@ -107,7 +107,7 @@ module _ (D : List ℕ → Dig) (D32 : (l : List ℕ) → length (D l) ≡ 32) w
     where
       by-out : Out D D32 by v (asked D D32 t) (toldAt D v t) → Ending D k (t ∷ ts) ⊎ Core D D32 (next D by v t)
       by-out (inl (inl f)) =
-          inl (shown D D32 k (t ∷ ts) (subst (Fault (digest D)) (alike-next D by earliest v (after D k ts) t a .formed) f))
+          inl (shown D D32 k (t ∷ ts) (subst (Fault (digest D)) (alike-next D by ofRuns v (after D k ts) t a .formed) f))
       by-out (inl (inr x)) =
           inl (forged t (record {
             accepted = ap (λ (y : Told). y .refusal) (sym (told-alike D v (after D k ts) t a)) ∙ x .0;
@@ -145,7 +145,7 @@ module _ (D : List ℕ → Dig) (D32 : (l : List ℕ) → length (D l) ≡ 32) w
       → Ending D k (onwards us ts) ⊎ FedWell k us ts v
   core-fed k [] ts v a c = inr (c, a)
   core-fed k (t ∷ us) ts v a c =
-      by-next (core-next last k ts v t a c) (core-fed k us (t ∷ ts) (next D last v t) (alike-next D last earliest v (after D k ts) t a))
+      by-next (core-next last k ts v t a c) (core-fed k us (t ∷ ts) (next D last v t) (alike-next D last ofRuns v (after D k ts) t a))
     where
       by-next : Ending D k (t ∷ ts) ⊎ Core D D32 (next D last v t)
           → (Core D D32 (next D last v t) → Ending D k (onwards us (t ∷ ts)) ⊎ FedWell k us (t ∷ ts) (next D last v t))

@@ -58,7 +58,7 @@ AllShort (p ∷ ps) = (length p ≤ 64) × AllShort ps
 
 pub cut-whole : (room : ℕ) (p : Way) → cut room p .lowest ++ whole (cut room p .higher) ≡ p
 cut-whole room [] = refl
-cut-whole zero (v ∷ p) = ap (λ (q : Way). v ∷ q) (cut-whole 63 p)
+cut-whole zero (v ∷ p) = ap (λ (q : Way). v ∷ q) (cut-whole _ p)
 cut-whole (suc room) (v ∷ p) = ap (λ (q : Way). v ∷ q) (cut-whole room p)
 
 cut-short : (room : ℕ) (p : Way) → room ≤ 64 → (length (cut room p .lowest) ≤ room) × AllShort (cut room p .higher)

@@ -28,13 +28,14 @@ use Rattle.paper.specs.Collisions.{Collision}
 use Rattle.rings.specs.Endings.{ZeroDigest}
 use Rattle.rings.proofs.Endings.{fault-shows}
 use Rattle.rings.proofs.InPaper.{holds-ring}
-use Rattle.runs.specs.Run.{Turn, Reading, earliest, World, start, toldAt, landed, next, after}
+use Rattle.runs.specs.Run.{Turn, Reading, ofRuns, World, start, toldAt, landed, next, after}
 use Rattle.runs.specs.Endings.{Ending, collision, zero, forged, earlier}
 use Rattle.runs.specs.Safety.{Stands, TrueAnswer, LegalEffect, AllFair, Untouched, Safe, SafeOrEnded, Safety}
 use Rattle.runs.proofs.Accepted.{NoneFails, among, numbered, none-fails, formedAll, judge-passed, accepted-passed, check-formed}
 use Rattle.runs.proofs.Lines.{late, Sorted, early, on-time, sorted}
 use Rattle.runs.proofs.Widths.{Is32, Small, Wide, wide}
 use Rattle.runs.proofs.Formed.{Well, well-at, well-append, Next, well-formed, at-top, Shut, refused-13, opening, shut}
+use Rattle.runs.proofs.Book.{entered-none}
 use Rattle.runs.proofs.Effects.{Given, Forgery, opposite-false}
 use Rattle.runs.proofs.Safe.{Core, kept-core, accepted}
 
@@ -203,9 +204,9 @@ module _ (D : List ℕ → Dig) (D32 : (l : List ℕ) → length (D l) ≡ 32) w
     pub closed : w .registers .opened ≡ false → Untouched D secret w
 
   -- a refused line
-  refused-side : (k : Dig) (w : World) (a : Told) → a .after ≡ w .registers → a .effect ≡ none′ → Well (a .formed)
-      → (w .registers .opened ≡ false → a .formed ≡ []) → Side k w → Side k (landed D earliest w a)
-  refused-side k w a e f h n v =
+  refused-side : (by : Reading) (k : Dig) (w : World) (a : Told) → a .after ≡ w .registers → a .effect ≡ none′ → Well (a .formed)
+      → (w .registers .opened ≡ false → a .formed ≡ []) → Side k w → Side k (landed D by w a)
+  refused-side by k w a e f h n v =
       record {
         small = rw e (v .small);
         keyed = rw e (v .keyed);
@@ -216,16 +217,16 @@ module _ (D : List ℕ → Dig) (D32 : (l : List ℕ) → length (D l) ≡ 32) w
             record {
               registers = e ∙ u .registers;
               formed = rw (n o′, u .formed) refl;
-              issued = rw (f, u .issued) refl;
+              issued = rw (f, u .issued) (entered-none by []);
               listed = rw f (u .listed);
               changed = rw f (u .changed);
             };
       }
 
   -- an accepted line
-  accepted-side : (k : Dig) (w : World) (kind : ℕ) (q : Request) (fs : List Str) → NoneFails (needs D (w .registers) q) → Wide q
-      → Well (told D (w .registers) kind q (passed fs) .formed) → Side k w → Side k (landed D earliest w (told D (w .registers) kind q (passed fs)))
-  accepted-side k w kind q fs n h f v =
+  accepted-side : (by : Reading) (k : Dig) (w : World) (kind : ℕ) (q : Request) (fs : List Str) → NoneFails (needs D (w .registers) q) → Wide q
+      → Well (told D (w .registers) kind q (passed fs) .formed) → Side k w → Side k (landed D by w (told D (w .registers) kind q (passed fs)))
+  accepted-side by k w kind q fs n h f v =
       let s = w .registers in
       record {
         small = small-after s q n (v .small);
@@ -293,20 +294,20 @@ module _ (D : List ℕ → Dig) (D32 : (l : List ℕ) → length (D l) ≡ 32) w
       by-open true o = by-next (k o) (next-or-none (w .registers) kind q c)
       by-open false o = subst Well (sym (closed-forms (w .registers) kind q o)) tt
 
-  read-side : (k : Dig) (w : World) (kind : ℕ) (q : Request) → Wide q → Side k w
-      → Side k (landed D earliest w (told D (w .registers) kind q (judge late [] (needs D (w .registers) q))))
-  read-side k w kind q h v =
+  read-side : (by : Reading) (k : Dig) (w : World) (kind : ℕ) (q : Request) → Wide q → Side k w
+      → Side k (landed D by w (told D (w .registers) kind q (judge late [] (needs D (w .registers) q))))
+  read-side by k w kind q h v =
       by-verdict (judge late [] (needs D s q)) refl (well-line w kind q (v .small) (v .keyed) h) (closed-forms s kind q)
     where
       s : Registers
       s = w .registers
 
       by-verdict : (u : Verdict) → judge late [] (needs D (w .registers) q) ≡ u → Well (told D (w .registers) kind q u .formed)
-          → (w .registers .opened ≡ false → told D (w .registers) kind q u .formed ≡ []) → Side k (landed D earliest w (told D (w .registers) kind q u))
-      by-verdict (refused n fs) e f o = refused-side k w (told D (w .registers) kind q (refused n fs)) refl refl f o v
+          → (w .registers .opened ≡ false → told D (w .registers) kind q u .formed ≡ []) → Side k (landed D by w (told D (w .registers) kind q u))
+      by-verdict (refused n fs) e f o = refused-side by k w (told D (w .registers) kind q (refused n fs)) refl refl f o v
       by-verdict (passed fs) e f o =
           let p = passes w kind q (ap (λ (u : Verdict). told D (w .registers) kind q u .refusal) e) in
-          accepted-side k w kind q fs (none-fails late (needs D (w .registers) q) p (numbered-late D (w .registers) q)) h f v
+          accepted-side by k w kind q fs (none-fails late (needs D (w .registers) q) p (numbered-late D (w .registers) q)) h f v
 
   -- ── any line ──
 
@@ -330,16 +331,16 @@ module _ (D : List ℕ → Dig) (D32 : (l : List ℕ) → length (D l) ≡ 32) w
           let f = bytesOf (t .line) in
           subst (Out by w (asked t)) (sym e) (by-verdict w (kindOf f) (asked t) by _ refl (wide f (line-bytes (t .line)) j l) c)
 
-  line-side : (k : Dig) (w : World) (t : Turn) → Side k w → Side k (next D earliest w t)
-  line-side k w t v = by-sort (sorted D (w .registers) (t .line) (t .space))
+  line-side : (by : Reading) (k : Dig) (w : World) (t : Turn) → Side k w → Side k (next D by w t)
+  line-side by k w t v = by-sort (sorted D (w .registers) (t .line) (t .space))
     where
-      by-sort : Sorted D (w .registers) (t .line) (t .space) → Side k (landed D earliest w (toldAt D w t))
+      by-sort : Sorted D (w .registers) (t .line) (t .space) → Side k (landed D by w (toldAt D w t))
       by-sort (early n z e) =
           let a = told D (w .registers) (kindOf (bytesOf (t .line))) (asked t) (refused n []) in
-          subst (λ (x : Told). Side k (landed D earliest w x)) (sym e) (refused-side k w a refl refl tt (λ o. refl) v)
+          subst (λ (x : Told). Side k (landed D by w x)) (sym e) (refused-side by k w a refl refl tt (λ o. refl) v)
       by-sort (on-time h i j l e) =
           let f = bytesOf (t .line) in
-          subst (λ (x : Told). Side k (landed D earliest w x)) (sym e) (read-side k w (kindOf f) (asked t) (wide f (line-bytes (t .line)) j l) v)
+          subst (λ (x : Told). Side k (landed D by w x)) (sym e) (read-side by k w (kindOf f) (asked t) (wide f (line-bytes (t .line)) j l) v)
 
   -- ── the run ──
 
@@ -351,7 +352,7 @@ module _ (D : List ℕ → Dig) (D32 : (l : List ℕ) → length (D l) ≡ 32) w
         well = tt;
         closed = λ o. record { registers = refl; formed = refl; issued = refl; listed = refl; changed = refl };
       }
-  side k (t ∷ ts) = line-side k (after D k ts) t (side k ts)
+  side k (t ∷ ts) = line-side ofRuns k (after D k ts) t (side k ts)
 
   pub core-start : (k : Dig) → Core D D32 (start D k)
   core-start k =
@@ -375,7 +376,7 @@ module _ (D : List ℕ → Dig) (D32 : (l : List ℕ) → length (D l) ≡ 32) w
   run k [] = inr (core-start k, tt)
   run k (t ∷ ts) = on (run k ts)
     where
-      land : AllFair D k ts → Out earliest (after D k ts) (asked t) (toldAt D (after D k ts) t)
+      land : AllFair D k ts → Out ofRuns (after D k ts) (asked t) (toldAt D (after D k ts) t)
           → Ending D k (t ∷ ts) ⊎ (Core D D32 (after D k (t ∷ ts)) × AllFair D k (t ∷ ts))
       land f (inl (inl x)) = inl (shown k (t ∷ ts) x)
       land f (inl (inr x)) =
@@ -385,7 +386,7 @@ module _ (D : List ℕ → Dig) (D32 : (l : List ℕ) → length (D l) ≡ 32) w
       on : Ending D k ts ⊎ (Core D D32 (after D k ts) × AllFair D k ts)
           → Ending D k (t ∷ ts) ⊎ (Core D D32 (after D k (t ∷ ts)) × AllFair D k (t ∷ ts))
       on (inl e) = inl (earlier t e)
-      on (inr x) = land (x .1) (line-out earliest (after D k ts) t (x .0))
+      on (inr x) = land (x .1) (line-out ofRuns (after D k ts) t (x .0))
 
   pub stands-of : (w : World) → Core D D32 w → Stands D w
   stands-of w c =

@@ -39,6 +39,10 @@ pub data Reading : Type 0 where
   earliest : Reading
   last : Reading
 
+-- "A memorandum stands for what the earliest line that issued it does"
+abbrev pub ofRuns : Reading
+ofRuns = earliest
+
 abbrev pub entered : Reading → (book new : List Issue) → List Issue
 entered earliest b i = b ++ i
 entered last b i = i ++ b
@@ -120,6 +124,5 @@ module _ (D : List ℕ → Dig) where
     replay k [] = start k
     replay k (t ∷ ts) = next (replay k ts) t
 
-  -- "A memorandum stands for what the earliest line that issued it does"
   abbrev pub after : (secret : Dig) → List Turn → World
-  after k ts = replay earliest k ts
+  after k ts = replay ofRuns k ts
