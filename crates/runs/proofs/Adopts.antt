@@ -25,7 +25,8 @@ use Rattle.runs.specs.Honest.{sayU2, sayEI, turned, note, turnRound, tak
 use Rattle.runs.specs.Liveness.{AllIssued}
 use Rattle.runs.proofs.Accepted.{NoneFails}
 use Rattle.runs.proofs.Widths.{Small}
-use Rattle.runs.proofs.Frames.{IsDigest, Sendable}
+use Rattle.runs.proofs.Parts.{IsDigest}
+use Rattle.runs.proofs.Frames.{Sendable}
 use Rattle.runs.proofs.Climbs.{nought-digest, IsEdit, risen-two-is}
 use Rattle.runs.proofs.Fed.{at, run, Fair, run-append, fair-append, fair-one, lands, issued-first, note-fits, note-fits-second, head-issued, head-stands, Got, Brings}
 use Rattle.runs.proofs.Reach.{is-open, two-places}

@@ -32,7 +32,8 @@ use Rattle.runs.specs.Liveness.{lastReply, TrueReply, finding, nothing-l
 use Rattle.runs.proofs.Accepted.{NoneFails}
 use Rattle.runs.proofs.Widths.{Small}
 use Rattle.runs.proofs.Safe.{true-finding}
-use Rattle.runs.proofs.Frames.{IsDigest, Sendable}
+use Rattle.runs.proofs.Parts.{IsDigest}
+use Rattle.runs.proofs.Frames.{Sendable}
 use Rattle.runs.proofs.Climbs.{rise-digest}
 use Rattle.runs.proofs.Sizes.{record-is, Decent}
 use Rattle.runs.proofs.Fed.{at, run, Fair, told-is, fair-one, lands, note-fits, Got, then, Brings, after-got}

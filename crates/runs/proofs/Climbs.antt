@@ -13,7 +13,7 @@ use Rattle.paper.specs.declared.Record.{Record}
 use Rattle.paper.specs.Strings.{Dig, nought, node, entry, enc, digest, blank, recordHash, H, up, foldUp}
 use Rattle.rings.specs.Trees.{points, Tree, empty, tip, branch, hashOf}
 use Rattle.runs.specs.Ways.{onLeft, onRight, Way, sidesOf, siblingsOf, rise, cut, Fork, Edit, risen, parents, risenTwo}
-use Rattle.runs.proofs.Frames.{IsDigest, AllDigests}
+use Rattle.runs.proofs.Parts.{IsDigest, AllDigests}
 
 -- ── sides ──
 

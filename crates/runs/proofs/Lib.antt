@@ -11,6 +11,7 @@ pub mod Frames
 pub mod Lines
 pub mod Live
 pub mod Moves
+pub mod Parts
 pub mod Places
 pub mod Reach
 pub mod Removes

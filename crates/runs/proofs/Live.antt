@@ -19,7 +19,7 @@ use Rattle.runs.specs.Endings.{Ending}
 use Rattle.runs.specs.Safety.{AllFair}
 use Rattle.runs.specs.Wishes.{Wish, insertItem, removeItem, swapPlaces, setRecord, clearRecord, askAbout, Legal}
 use Rattle.runs.specs.Liveness.{latestFirst, Granted, Live, LiveOrEnded, Liveness}
-use Rattle.runs.proofs.Frames.{IsDigest, bytes-append}
+use Rattle.runs.proofs.Parts.{IsDigest, bytes-append}
 use Rattle.runs.proofs.Sizes.{decent}
 use Rattle.runs.proofs.Safe.{Core}
 use Rattle.runs.proofs.Runs.{side, run, stands-of}

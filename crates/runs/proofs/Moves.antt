@@ -26,7 +26,7 @@ use Rattle.runs.specs.Wishes.{IsListed}
 use Rattle.runs.specs.Ways.{itemOf, nextOf, hashIn, isOf, gapHolds, Way, has, found, wayTo, rise, Fork, forkOf, halves, leftOne, rightOne, Edit, risenTwo, exchanged}
 use Rattle.runs.specs.Honest.{sayU2, sayEI, turned, note, twoPlaces, turnRound, takeOver, without, placed, alone, insertLines, swapLines}
 use Rattle.runs.proofs.Widths.{Small}
-use Rattle.runs.proofs.Frames.{IsDigest}
+use Rattle.runs.proofs.Parts.{IsDigest}
 use Rattle.runs.proofs.Climbs.{record-digest, tree-digest, IsEdit, risen-two-is}
 use Rattle.runs.proofs.Places.{plug-two, rise-two, forked, exchanged-fork}
 use Rattle.runs.proofs.Rings.{ring-once}
@@ -42,32 +42,20 @@ module _ (D : List ℕ → Dig) (DD : (l : List ℕ) → IsDigest (D l)) (w : Wo
 
   -- ── digests at the feet of a fork ──
 
-  -- old or new ones that are the hashes of two leaves rise to the hash of the tree with those leaves there
-  pub feet-were : (f : Fork) (a b : Edit) (x y : Leaf) → a .was ≡ hashOf D (tip x) → b .was ≡ hashOf D (tip y)
-      → risenTwo D f (leftOne f a b) (rightOne f a b) .was ≡ hashOf D (plug-two f (tip (leftOne f x y)) (tip (rightOne f x y)))
-  feet-were f a b x y h k =
-      ap₂ (λ (u v : Dig). rise D (f .above) (H D (rise D (f .left) u) (rise D (f .right) v))) (by-left (f .crossed)) (by-right (f .crossed))
+  -- old ones or new ones that are the hashes of two leaves rise to the hash of the tree with those leaves there
+  pub feet : (of : Edit → Dig) (f : Fork) (a b : Edit) (x y : Leaf) → of a ≡ hashOf D (tip x) → of b ≡ hashOf D (tip y)
+      → rise D (f .above) (H D (rise D (f .left) (of (leftOne f a b))) (rise D (f .right) (of (rightOne f a b))))
+      ≡ hashOf D (plug-two f (tip (leftOne f x y)) (tip (rightOne f x y)))
+  feet of f a b x y h k =
+      ap₂ (λ (u v : Dig). rise D (f .above) (H D (rise D (f .left) u) (rise D (f .right) v)))
+      (by-left (f .crossed)) (by-right (f .crossed))
       ∙ rise-two D f _ _
     where
-      by-left : (c : Bool) → (pick c b a) .was ≡ hashOf D (tip (pick c y x))
+      by-left : (c : Bool) → of (pick c b a) ≡ hashOf D (tip (pick c y x))
       by-left true = k
       by-left false = h
 
-      by-right : (c : Bool) → (pick c a b) .was ≡ hashOf D (tip (pick c x y))
-      by-right true = h
-      by-right false = k
-
-  feet-become : (f : Fork) (a b : Edit) (x y : Leaf) → a .becomes ≡ hashOf D (tip x) → b .becomes ≡ hashOf D (tip y)
-      → risenTwo D f (leftOne f a b) (rightOne f a b) .becomes ≡ hashOf D (plug-two f (tip (leftOne f x y)) (tip (rightOne f x y)))
-  feet-become f a b x y h k =
-      ap₂ (λ (u v : Dig). rise D (f .above) (H D (rise D (f .left) u) (rise D (f .right) v))) (by-left (f .crossed)) (by-right (f .crossed))
-      ∙ rise-two D f _ _
-    where
-      by-left : (c : Bool) → (pick c b a) .becomes ≡ hashOf D (tip (pick c y x))
-      by-left true = k
-      by-left false = h
-
-      by-right : (c : Bool) → (pick c a b) .becomes ≡ hashOf D (tip (pick c x y))
+      by-right : (c : Bool) → of (pick c a b) ≡ hashOf D (tip (pick c x y))
       by-right true = h
       by-right false = k
 
@@ -104,10 +92,10 @@ module _ (D : List ℕ → Dig) (DD : (l : List ℕ) → IsDigest (D l)) (w : Wo
       let h = feet-are D DD w (g .opened) f e (turned e) he (record { old = he .new; new = he .old }) in
       let y = risenTwo D f a b in
       let hy = risen-two-is D DD f a b (h .0) (h .1) in
-      let was-root : y .was ≡ s .root = feet-were f e (turned e) x z refl refl ∙ ap (hashOf D) fork ∙ g .root in
+      let was-root : y .was ≡ s .root = feet (λ u. u .was) f e (turned e) x z refl refl ∙ ap (hashOf D) fork ∙ g .root in
       let once : (v : Leaf) → count v (leaves T) ≤ 1 = λ v. omega (arith, g .holds v, ring-once (recordHash D) v (w .items) (g .ascending)) in
       let becomes-root : y .becomes ≡ hashOf D (exchanged x z T) =
-      feet-become f e (turned e) z x refl refl ∙ ap (hashOf D) (sym (exchanged-fork x z f T fork (once x) (once z))) in
+      feet (λ u. u .becomes) f e (turned e) z x refl refl ∙ ap (hashOf D) (sym (exchanged-fork x z f T fork (once x) (once z))) in
       let t = sayU2 a b y in
       let q = Q.swap (a .was) (b .was) (y .was) (y .becomes) (note D s t) in
       let u = two-places D DD w (g .opened) (w .formed) (w .book) f a b (h .0) (h .1) in

@@ -14,7 +14,7 @@ use Rattle.paper.specs.Answers as Does
 use Rattle.runs.specs.Run.{Issue, isIssued, World}
 use Rattle.runs.specs.Ways.{Way, sidesOf, siblingsOf, rise, cut, Fork, Edit, risen, parents, risenTwo}
 use Rattle.runs.specs.Honest.{sayU1, sayU2, note, pathUp, joinUp, further, onePlace, pairUp, raiseUp, twoPlaces}
-use Rattle.runs.proofs.Frames.{IsDigest}
+use Rattle.runs.proofs.Parts.{IsDigest}
 use Rattle.runs.proofs.Climbs.{siblings-length, sides-fit, fold-rises, rise-append, whole, AllShort, cut-whole, lowest-short, higher-short, IsEdit, siblings-digests, risen-is, parents-are}
 use Rattle.runs.proofs.Fed.{at, note-fits, Got, says-also, then, say}
 

@@ -26,7 +26,7 @@ use Rattle.rings.proofs.Bridge.{zero-is-nought}
 use Rattle.runs.specs.Run.{Items, World}
 use Rattle.runs.specs.Ways.{itemOf, nextOf, hashIn, isOf, leadsTo, found, forkOf}
 use Rattle.runs.specs.Honest.{turned, turnRound, relinked, gone, without, placed, alone, removeLines}
-use Rattle.runs.proofs.Frames.{IsDigest}
+use Rattle.runs.proofs.Parts.{IsDigest}
 use Rattle.runs.proofs.Climbs.{record-digest, tree-digest}
 use Rattle.runs.proofs.Places.{forked}
 use Rattle.runs.proofs.Rings.{one-of-item, one-to-item}
@@ -34,7 +34,7 @@ use Rattle.runs.proofs.Fed.{Brings}
 use Rattle.runs.proofs.Adopts.{turn-last, adopt-last, alone-is, first-line, without-is, place-lines}
 use Rattle.runs.proofs.Asks.{none-hash}
 use Rattle.runs.proofs.Standing.{Ground, leaf-digest, spot-by, spotted}
-use Rattle.runs.proofs.Moves.{feet-were}
+use Rattle.runs.proofs.Moves.{feet}
 
 -- ── a tree of one leaf ──
 
@@ -148,7 +148,7 @@ module _ (D : List ℕ → Dig) (DD : (l : List ℕ) → IsDigest (D l)) (w : Wo
       let z-was : digest D (leaf A B′ nought) ≡ hashOf D (tip z) =
       ap₂ (λ (k : ℕ) (v : Dig). digest D (leaf k B′ v)) z-item empty-z ∙ leaf-digest D z in
       let root : y .was ≡ s .root =
-      feet-were D DD w T g f (relinked D s B A B′ ω) (gone D s A B′) x z x-was z-was
+      feet D DD w T g (λ u. u .was) f (relinked D s B A B′ ω) (gone D s A B′) x z x-was z-was
       ∙ ap (hashOf D) (forked (leadsTo A) (isOf A) T hx hz other) ∙ g .root in
       let h = place-lines D DD w (g .opened) f B A B′ ω (dB .small) (dA .small) (tz .next-small) hω (dB .positive) (dA .positive)
       (tz .next-positive) gap in

@@ -19,7 +19,8 @@ use Rattle.runs.specs.Ways.{nextOf, isOf, found, wayTo, rise, risen}
 use Rattle.runs.specs.Honest.{recordOf, sayU1, note, rewritten, setLines, clearLines}
 use Rattle.runs.proofs.Accepted.{NoneFails}
 use Rattle.runs.proofs.Widths.{Small}
-use Rattle.runs.proofs.Frames.{IsDigest, Sendable}
+use Rattle.runs.proofs.Parts.{IsDigest}
+use Rattle.runs.proofs.Frames.{Sendable}
 use Rattle.runs.proofs.Climbs.{rise-digest}
 use Rattle.runs.proofs.Sizes.{record-is, Decent}
 use Rattle.runs.proofs.Fed.{at, fair-one, lands, note-fits, Brings, after-got}

@@ -16,7 +16,7 @@ use Rattle.runs.specs.Run.{World}
 use Rattle.runs.specs.Ways.{itemOf, nextOf, hashIn, isOf, has, found, wayTo, rise}
 use Rattle.runs.specs.Honest.{recordOf}
 use Rattle.runs.proofs.Widths.{Small}
-use Rattle.runs.proofs.Frames.{IsDigest}
+use Rattle.runs.proofs.Parts.{IsDigest}
 use Rattle.runs.proofs.Places.{rise-plug, has-it, found-passes, found-occurs, located}
 use Rattle.runs.proofs.Rings.{leaf-held, leaf-next}
 use Rattle.runs.proofs.Sizes.{record-is, AllDecent}
