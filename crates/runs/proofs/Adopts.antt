@@ -110,7 +110,8 @@ module _ (D : List ℕ → Dig) (DD : (l : List ℕ) → IsDigest (D l)) where
         record {
           fair = fair-append D w qs (q ∷ []) (h .fair) (subst (λ (u : World). Fair D u (q ∷ [])) (sym (h .ends)) fair-q);
           registers-are = ap (λ (u : World). u .registers) end;
-          items-are = ap (λ (u : World). u .items) end ∙ ap (λ (d : List Step). doSteps d (w .items)) (head-stands D m c (h .book));
+          items-are = ap (λ (u : World). u .items) end ∙ ap (λ (d : List Step). doSteps d (w .items))
+              (head-stands D m c (h .book));
         }
 
     -- ── 07 first ──
@@ -161,7 +162,8 @@ module _ (D : List ℕ → Dig) (DD : (l : List ℕ) → IsDigest (D l)) where
 
     place-feet : (f : Fork) (B A B′ : ℕ) (ω : Dig) → IsEdit (onLeftFoot D s f B A B′ ω) × IsEdit (onRightFoot D s f B A B′ ω)
     place-feet f B A B′ ω =
-        feet-are f (relinked D s B A B′ ω) (gone D s A B′) (record { old = DD _; new = DD _ }) (record { old = DD _; new = nought-digest })
+        feet-are f (relinked D s B A B′ ω) (gone D s A B′) (record { old = DD _; new = DD _ })
+        (record { old = DD _; new = nought-digest })
 
     pub without-is : (f : Fork) (B A B′ : ℕ) (ω : Dig) → IsEdit (without D s f B A B′ ω)
     without-is f B A B′ ω = let h = place-feet f B A B′ ω in risen-two-is D DD f _ _ (h .0) (h .1)
@@ -178,7 +180,8 @@ module _ (D : List ℕ → Dig) (DD : (l : List ℕ) → IsDigest (D l)) where
         let t = sayU2 a b y in
         let g = two-places D DD w o (w .formed) (w .book) f a b (h .0) (h .1) in
         heads-after g
-        (heads-line (at w (g .formed) (g .book)) (Q.place B A B′ ω (y .was) (y .becomes) (note D s t)) [] [] (sayEI y) (Does.removes A)
+        (heads-line (at w (g .formed) (g .book)) (Q.place B A B′ ω (y .was) (y .becomes) (note D s t)) [] [] (sayEI y)
+        (Does.removes A)
         (sB, sA, sB′, (hω, (hy .old, (hy .new, (digest-of t, tt)))))
         (is-open D DD w o, (not-zero B pB, (not-zero A pA, (not-zero B′ pB′, (rw gap refl, (place-fits f B A B′ ω, tt))))))
         (g .got, tt) refl)

@@ -42,7 +42,8 @@ either-assoc false b c = refl
 issued-append : (m : Dig) (a b : List Issue) → isIssued m (a ++ b) ≡ either (isIssued m a) (isIssued m b)
 issued-append m [] b = refl
 issued-append m (i ∷ a) b =
-    ap (either (same (i .memorandum) m)) (issued-append m a b) ∙ sym (either-assoc (same (i .memorandum) m) (isIssued m a) (isIssued m b))
+    ap (either (same (i .memorandum) m)) (issued-append m a b)
+    ∙ sym (either-assoc (same (i .memorandum) m) (isIssued m a) (isIssued m b))
 
 issued-entered : (by : Reading) (m : Dig) (b i : List Issue) → isIssued m (entered by b i) ≡ either (isIssued m b) (isIssued m i)
 issued-entered earliest m b i = issued-append m b i
@@ -145,7 +146,8 @@ module _ (D : List ℕ → Dig) (D32 : (l : List ℕ) → length (D l) ≡ 32) w
       → Ending D k (onwards us ts) ⊎ FedWell k us ts v
   core-fed k [] ts v a c = inr (c, a)
   core-fed k (t ∷ us) ts v a c =
-      by-next (core-next last k ts v t a c) (core-fed k us (t ∷ ts) (next D last v t) (alike-next D last ofRuns v (after D k ts) t a))
+      by-next (core-next last k ts v t a c)
+      (core-fed k us (t ∷ ts) (next D last v t) (alike-next D last ofRuns v (after D k ts) t a))
     where
       by-next : Ending D k (t ∷ ts) ⊎ Core D D32 (next D last v t)
           → (Core D D32 (next D last v t) → Ending D k (onwards us (t ∷ ts)) ⊎ FedWell k us (t ∷ ts) (next D last v t))
@@ -162,7 +164,8 @@ module _ (D : List ℕ → Dig) (D32 : (l : List ℕ) → length (D l) ≡ 32) w
       (c .root ∙ ap (λ (r : Registers). r .root) (a .registers) ∙ sym (d .root))
       (subst (λ (F : List Str). StandsFor (digest D) F (c .tree) (v .items)) (a .formed) (c .stands)) (d .stands))
     where
-      by-list : Fault (digest D) (after D k ts .formed) ⊎ (v .items ≡ after D k ts .items) → Ending D k ts ⊎ (v .items ≡ after D k ts .items)
+      by-list : Fault (digest D) (after D k ts .formed) ⊎ (v .items ≡ after D k ts .items)
+          → Ending D k ts ⊎ (v .items ≡ after D k ts .items)
       by-list (inl f) = inl (shown D D32 k ts f)
       by-list (inr e) = inr e
 
@@ -183,7 +186,8 @@ module _ (D : List ℕ → Dig) (D32 : (l : List ℕ) → length (D l) ≡ 32) w
       by-run : Ending D k ts ⊎ (Core D D32 (after D k ts) × AllFair D k ts)
           → Ending D k (onwards us ts) ⊎ (fed D (latestFirst (after D k ts)) us .items ≡ after D k (onwards us ts) .items)
       by-run (inl e) = inl (ended k us ts e)
-      by-run (inr c) = by-fed (core-fed k us ts (latestFirst (after D k ts)) (alike-latest (after D k ts)) (core-latest (after D k ts) (c .0)))
+      by-run (inr c) = by-fed
+          (core-fed k us ts (latestFirst (after D k ts)) (alike-latest (after D k ts)) (core-latest (after D k ts) (c .0)))
 
   -- ── the root settles the list ──
 
@@ -193,7 +197,8 @@ module _ (D : List ℕ → Dig) (D32 : (l : List ℕ) → length (D l) ≡ 32) w
       both : Core D D32 (after D k ts) → Core D D32 (after D k′ us)
           → Fault (digest D) (after D k ts .formed ++ after D k′ us .formed) ⊎ (after D k ts .items ≡ after D k′ us .items)
       both c d =
-          same-list D D32 (after D k ts .formed ++ after D k′ us .formed) (c .tree) (d .tree) (after D k ts .items) (after D k′ us .items)
+          same-list D D32 (after D k ts .formed ++ after D k′ us .formed) (c .tree) (d .tree) (after D k ts .items)
+          (after D k′ us .items)
           (c .root ∙ e ∙ sym (d .root))
           (stands-more (digest D) (λ s i. Memᴰ·append-left (after D k′ us .formed) i) (c .stands))
           (stands-more (digest D) (λ s i. Memᴰ·append-right (after D k ts .formed) i) (d .stands))
@@ -206,7 +211,8 @@ module _ (D : List ℕ → Dig) (D32 : (l : List ℕ) → length (D l) ≡ 32) w
       by-list (inl f) = inl (fault-shows (λ s i. well-at (after D k ts .formed ++ after D k′ us .formed) s well i) f)
       by-list (inr x) = inr x
 
-      by-runs : Ending D k ts ⊎ (Core D D32 (after D k ts) × AllFair D k ts) → Ending D k′ us ⊎ (Core D D32 (after D k′ us) × AllFair D k′ us)
+      by-runs : Ending D k ts ⊎ (Core D D32 (after D k ts) × AllFair D k ts)
+          → Ending D k′ us ⊎ (Core D D32 (after D k′ us) × AllFair D k′ us)
           → (Ending D k ts ⊎ Ending D k′ us)
           ⊎ (Shown D (after D k ts .formed ++ after D k′ us .formed) ⊎ (after D k ts .items ≡ after D k′ us .items))
       by-runs (inl x) d = inl (inl x)
@@ -236,7 +242,9 @@ module _ (D : List ℕ → Dig) where
   ways-out {k} (earlier {ts = ts} t e) = later (ways-out e)
     where
       later : Shown D (after D k ts .formed) ⊎ AnyForged D k ts → Shown D (after D k (t ∷ ts) .formed) ⊎ AnyForged D k (t ∷ ts)
-      later (inl x) = inl (shown-more (after D k ts .formed) (after D k (t ∷ ts) .formed) (λ s i. Memᴰ·append-right (toldAt D (after D k ts) t .formed) i) x)
+      later (inl x) = inl
+          (shown-more (after D k ts .formed) (after D k (t ∷ ts) .formed)
+          (λ s i. Memᴰ·append-right (toldAt D (after D k ts) t .formed) i) x)
       later (inr x) = inr (inr x)
 
   no-other-way-out : SafeOrEnded D → NoOtherWayOut D
@@ -262,7 +270,8 @@ module _ (D : List ℕ → Dig) where
       by-test false h f = f h
 
   earliest-stays : EarliestStays D
-  earliest-stays k ts t m h = stands-append m (after D k ts .book) (issuedBy D (after D k ts) (toldAt D (after D k ts) t .effect)) h
+  earliest-stays k ts t m h = stands-append m (after D k ts .book)
+      (issuedBy D (after D k ts) (toldAt D (after D k ts) t .effect)) h
 
 also-for : (D : List ℕ → Dig) → ((l : List ℕ) → length (D l) ≡ 32) → AlsoFor D
 also-for D D32 =

@@ -43,7 +43,8 @@ use Rattle.runs.proofs.Standing.{Ground, spot-by, spotted, item-digest}
 
 module _ (D : List ℕ → Dig) where
   -- the reply to the last of some requests
-  last-is : (w : World) (a : List Request) (q : Request) → lastReply D w (turnsOf (a ++ (q ∷ []))) ≡ toldAt D (run D w a) (turnOf q) .says
+  last-is : (w : World) (a : List Request) (q : Request)
+      → lastReply D w (turnsOf (a ++ (q ∷ []))) ≡ toldAt D (run D w a) (turnOf q) .says
   last-is w [] q = refl
   last-is w (p ∷ []) q = refl
   last-is w (p ∷ r ∷ a) q = last-is (next D last w (turnOf p)) (r ∷ a) q
@@ -85,12 +86,14 @@ module _ (D : List ℕ → Dig) (DD : (l : List ℕ) → IsDigest (D l)) (w : Wo
     pub reply : TrueReply D q (w .items) (lastReply D w (turnsOf qs))
 
   -- behind lines that change nothing
-  answers-last : {a : List Request} {t : Memo} (q : ℕ) (h : Got D w a t) (p : Request) (ok : Sendable p) (n : NoneFails (needs D s p))
+  answers-last : {a : List Request} {t : Memo} (q : ℕ) (h : Got D w a t) (p : Request) (ok : Sendable p)
+      (n : NoneFails (needs D s p))
       → Fair D (at w (h .formed) (h .book)) (p ∷ []) → run D (at w (h .formed) (h .book)) (p ∷ []) .registers ≡ s
       → run D (at w (h .formed) (h .book)) (p ∷ []) .items ≡ w .items
       → TrueReply D q (w .items) (toldAt D (at w (h .formed) (h .book)) (turnOf p) .says) → Answers q (a ++ (p ∷ []))
   answers-last {a} q h p ok n f e₁ e₂ t =
-      let b : Brings D (at w (h .formed) (h .book)) (p ∷ []) s (w .items) = record { fair = f; registers-are = e₁; items-are = e₂ } in
+      let b : Brings D (at w (h .formed) (h .book)) (p ∷ []) s (w .items) =
+      record { fair = f; registers-are = e₁; items-are = e₂ } in
       let c = after-got D h b in
       record {
         fair = c .fair;
@@ -116,26 +119,39 @@ module _ (D : List ℕ → Dig) (DD : (l : List ℕ) → IsDigest (D l)) (w : Wo
         let y = rise D p x in
         let e : y ≡ s .root = ap (rise D p) (item-digest D DD w T g A (t .held) (t .listed) (tellsOf q) t refl) ∙ t .to-root in
         let hy = rise-digest D DD p x (DD _) in
-        let h₁ = one-place D DD w (g .opened) (w .formed) (w .book) p (record { was = x; becomes = x }) (record { old = DD _; new = DD _ }) in
+        let h₁ = one-place D DD w (g .opened) (w .formed) (w .book) p (record { was = x; becomes = x })
+        (record { old = DD _; new = DD _ }) in
         let h₂ = witness-line D DD w (g .opened) (h₁ .formed) (h₁ .book) x y (DD _) hy (h₁ .got) in
         let h = then D h₁ h₂ in
         let m = note D s (v1 x y) in
         let a = Q.ask q A A′ r y m in
         let v = at w (h .formed) (h .book) in
-        let ok : Sendable a = (small, d .small, t .next-small, d .small-record, (hy, (DD (enc (memo (v1 x y) (s .secret))), tt))) in
+        let ok : Sendable a =
+        (small, d .small, t .next-small, d .small-record, (hy, (DD (enc (memo (v1 x y) (s .secret))), tt))) in
+        let asked = not-zero q positive in
+        let numbered = not-zero A (d .positive) in
+        let next-numbered = not-zero A′ (t .next-positive) in
+        let fits = note-fits D (s .secret) (v1 x y) [] in
+        let is-root = at-root y (s .root) e in
         let n : NoneFails (needs D s a) = (
           is-open D DD w (g .opened),
-          (not-zero q positive, (not-zero A (d .positive), (not-zero A′ (t .next-positive), (d .sound, (rw (t .passes) refl, (note-fits D (s .secret) (v1 x y) [], (at-root y (s .root) e, tt))))))),
+          (asked, (numbered, (next-numbered, (d .sound, (rw (t .passes) refl, (fits, (is-root, tt))))))),
         ) in
         let end = lands D v a ok n in
         let on : 0 < count (points A A′ (recordHash D r)) (ring (recordHash D) (w .items)) =
-        subst (λ (u : Leaf). 0 < count u (ring (recordHash D) (w .items))) (at-z z (recordHash D r) (ap (recordHash D) k ∙ t .hash-is)) (t .in-ring) in
+        subst (λ (u : Leaf). 0 < count u (ring (recordHash D) (w .items)))
+        (at-z z (recordHash D r) (ap (recordHash D) k ∙ t .hash-is)) (t .in-ring) in
         let listed : Listed A r (w .items) = subst (λ (u : Record). Listed A u (w .items)) (sym k) (t .listed) in
-        let true-of = true-finding D D32 (w .formed) (w .items) q A A′ r (d .sound) (t .passes)
-        (listed, (λ c j. gap-free (recordHash D) c A A′ (recordHash D r) (w .items) (g .ascending) (gap-holds c A A′ j) on), occurs _ _ on) in
-        subst (Answers q) (append-assoc (onePlace D s p (record { was = x; becomes = x })) (Q.witness x y (note D s (u1 x y x y)) ∷ []) (a ∷ []))
+        let true-of = true-finding D D32 (w .formed) (w .items) q A A′ r (d .sound) (t .passes) (
+          listed,
+          (λ c j. gap-free (recordHash D) c A A′ (recordHash D r) (w .items) (g .ascending) (gap-holds c A A′ j) on),
+          occurs _ _ on,
+        ) in
+        subst (Answers q)
+        (append-assoc (onePlace D s p (record { was = x; becomes = x })) (Q.witness x y (note D s (u1 x y x y)) ∷ []) (a ∷ []))
         (answers-last q h a ok n (fair-one D v a ok n (h .got, tt) [] tt) (ap (λ (u : World). u .registers) end)
-        (ap (λ (u : World). u .items) end) (finding (findingOf q A A′ r) true-of (ap (λ (u : Told). u .says) (told-is D v a ok n))))
+        (ap (λ (u : World). u .items) end)
+        (finding (findingOf q A A′ r) true-of (ap (λ (u : Told). u .says) (told-is D v a ok n))))
       where
         at-z : (z : Leaf) (v : Dig) → v ≡ hashIn z → z ≡ points (itemOf z) (nextOf z) v
         at-z (points A B u) v e = ap (points A B) (sym e)
@@ -144,7 +160,8 @@ module _ (D : List ℕ → Dig) (DD : (l : List ℕ) → IsDigest (D l)) (w : Wo
     none-at-all e =
         let a = Q.askNone q in
         let empty-root : nought ≡ s .root = sym (none-hash D T (λ x. g .holds x ∙ rw e (count-nil x))) ∙ g .root in
-        let n : NoneFails (needs D s a) = (is-open D DD w (g .opened), (not-zero q positive, (at-root nought (s .root) empty-root, tt))) in
+        let n : NoneFails (needs D s a) =
+        (is-open D DD w (g .opened), (not-zero q positive, (at-root nought (s .root) empty-root, tt))) in
         let end = lands D w a small n in
         record {
           fair = fair-one D w a small n tt [] tt;

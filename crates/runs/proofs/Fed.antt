@@ -58,7 +58,8 @@ module _ (D : List ℕ → Dig) where
         let r = reads-back q ok in
         let e = line-is-frame q r in
         read-is D s (digitsOf (frameOf q)) replyRoom refl (line-is-hex q r)
-        (subst (λ (f : List ℕ). known (kindOf f) ≡ true) (sym e) (r .kind-known)) (subst (λ (f : List ℕ). fits f ≡ true) (sym e) (r .fit))
+        (subst (λ (f : List ℕ). known (kindOf f) ≡ true) (sym e) (r .kind-known))
+        (subst (λ (f : List ℕ). fits f ≡ true) (sym e) (r .fit))
         ∙ ap (λ (f : List ℕ). told D s (kindOf f) (requestOf f) (judge late [] (needs D s (requestOf f)))) e
         ∙ ap (λ (p : Request). told D s (written q .kind) p (judge late [] (needs D s p))) (r .read)
         ∙ ap (told D s (written q .kind) q) (judge-passed late [] (needs D s q) (all-pass late (needs D s q) n))
@@ -76,7 +77,8 @@ module _ (D : List ℕ → Dig) where
     -- a memorandum issued stands first in the book
     pub issued-first : NoneFails (needs D s q) → (shown : List ℕ) (before : List Str) (t : Memo) (c : Change)
         → answer D s q ≡ issue D s shown before t c
-        → (F : List Str) × (next D last w (turnOf q) ≡ at w F (record { memorandum = note D s t; does = meaning (w .book) c } ∷ w .book))
+        → (F : List Str)
+        × (next D last w (turnOf q) ≡ at w F (record { memorandum = note D s t; does = meaning (w .book) c } ∷ w .book))
     issued-first n shown before t c e =
         let fs = formedAll late [] (needs D s q) in (
           ((memo t (s .secret) ∷ before) ++ fs) ++ w .formed,
@@ -124,7 +126,8 @@ module _ (D : List ℕ → Dig) where
   says-also {w} {qs} e g = subst (Got w qs) e g
 
   -- one after the other
-  pub then : {w : World} {a b : List Request} {t u : Memo} (g : Got w a t) → Got (at w (g .formed) (g .book)) b u → Got w (a ++ b) u
+  pub then : {w : World} {a b : List Request} {t u : Memo} (g : Got w a t) → Got (at w (g .formed) (g .book)) b u
+      → Got w (a ++ b) u
   then {w} {a} {b} g h =
       record {
         formed = h .formed;

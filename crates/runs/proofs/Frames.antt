@@ -60,7 +60,11 @@ by-row q b k m h e =
       bytes = (b, bytes-all (row .carries) ps h);
       short = omega (arith, short-all (row .carries) ps h);
       kind-known = k;
-      fit = rw (sound-all (row .carries) ps h, eq-eqb (length (frameOf q)) (1 + takesAll (row .carries) (together ps)) (omega (arith, takes-all (row .carries) ps h))) refl;
+      fit = rw (
+        sound-all (row .carries) ps h,
+        eq-eqb (length (frameOf q)) (1 + takesAll (row .carries) (together ps))
+            (omega (arith, takes-all (row .carries) ps h)),
+      ) refl;
       read = (λ j. row .reads (λ i. part-at (row .carries) ps i h j)) ∙ e;
     }
 
@@ -79,15 +83,21 @@ reads-back (Q.path x x′ sides l) h =
     let q = Q.path x x′ sides l in
     let p = shaped-path sides l (h .1) (h .2) (h .3) in
     by-row q (omega arith) refl (omega arith) (shaped-digest x (h .0 .0), (shaped-digest x′ (h .0 .1 .0), (p, tt)))
-    (rw (siblings-back sides l (h .1)) (ap (λ (n : ℕ). Q.path x x′ n l) (subst (λ (b : List ℕ). sidesIn b ≡ sides) (append-nil (pathBytes sides l)) (sides-back sides (length l) (together l) [] (sides-small (length l) sides (h .2) (h .3))))))
+    (rw (siblings-back sides l (h .1))
+    (ap (λ (n : ℕ). Q.path x x′ n l)
+    (subst (λ (b : List ℕ). sidesIn b ≡ sides) (append-nil (pathBytes sides l))
+    (sides-back sides (length l) (together l) [] (sides-small (length l) sides (h .2) (h .3))))))
 reads-back (Q.witness x y m) h =
     by-row (Q.witness x y m) (omega arith) refl (omega arith) (shaped-digests (written (Q.witness x y m) .parts) h) refl
 reads-back (Q.join x y x′ y′ m1 z z′ m2) h =
-    by-row (Q.join x y x′ y′ m1 z z′ m2) (omega arith) refl (omega arith) (shaped-digests (written (Q.join x y x′ y′ m1 z z′ m2) .parts) h) refl
+    by-row (Q.join x y x′ y′ m1 z z′ m2) (omega arith) refl (omega arith)
+    (shaped-digests (written (Q.join x y x′ y′ m1 z z′ m2) .parts) h) refl
 reads-back (Q.pair x1 y x1′ y′ m1 x2 z x2′ z′ m2) h =
-    by-row (Q.pair x1 y x1′ y′ m1 x2 z x2′ z′ m2) (omega arith) refl (omega arith) (shaped-digests (written (Q.pair x1 y x1′ y′ m1 x2 z x2′ z′ m2) .parts) h) refl
+    by-row (Q.pair x1 y x1′ y′ m1 x2 z x2′ z′ m2) (omega arith) refl (omega arith)
+    (shaped-digests (written (Q.pair x1 y x1′ y′ m1 x2 z x2′ z′ m2) .parts) h) refl
 reads-back (Q.raise x1 x2 y x1′ x2′ y′ m1 z z′ m2) h =
-    by-row (Q.raise x1 x2 y x1′ x2′ y′ m1 z z′ m2) (omega arith) refl (omega arith) (shaped-digests (written (Q.raise x1 x2 y x1′ x2′ y′ m1 z z′ m2) .parts) h) refl
+    by-row (Q.raise x1 x2 y x1′ x2′ y′ m1 z z′ m2) (omega arith) refl (omega arith)
+    (shaped-digests (written (Q.raise x1 x2 y x1′ x2′ y′ m1 z z′ m2) .parts) h) refl
 reads-back (Q.swap x1 x2 y y′ m) h =
     by-row (Q.swap x1 x2 y y′ m) (omega arith) refl (omega arith) (shaped-digests (written (Q.swap x1 x2 y y′ m) .parts) h) refl
 reads-back (Q.first A) h =
@@ -97,7 +107,8 @@ reads-back (Q.place A A′ B′ ω y y′ m) h =
     let e₂ = number-be64 A′ (h .1) in
     let e₃ = number-be64 B′ (h .2) in
     by-row (Q.place A A′ B′ ω y y′ m) (omega arith) refl (omega arith)
-    (shaped-number A, (shaped-number A′, (shaped-number B′, shaped-digests (ω ∷ y ∷ y′ ∷ m ∷ []) (h .3)))) (λ i. Q.place (e₁ i) (e₂ i) (e₃ i) ω y y′ m)
+    (shaped-number A, (shaped-number A′, (shaped-number B′, shaped-digests (ω ∷ y ∷ y′ ∷ m ∷ []) (h .3))))
+    (λ i. Q.place (e₁ i) (e₂ i) (e₃ i) ω y y′ m)
 reads-back (Q.turn x y m) h =
     by-row (Q.turn x y m) (omega arith) refl (omega arith) (shaped-digests (written (Q.turn x y m) .parts) h) refl
 reads-back (Q.chain x y m1 z m2) h =
@@ -111,15 +122,17 @@ reads-back (Q.setTo A A′ old v2 v3 v4 y y′ m) h =
     let e₄ = number-be64 v2 (h .3) in
     let e₅ = number-be64 v3 (h .4) in
     let e₆ = number-be64 v4 (h .5) in
+    let digests = shaped-digests (y ∷ y′ ∷ m ∷ []) (h .6) in
     by-row (Q.setTo A A′ old v2 v3 v4 y y′ m) (omega arith) refl (omega arith)
-    (shaped-number A, (shaped-number A′, (shaped-record old, (shaped-number v2, (shaped-number v3, (shaped-number v4, shaped-digests (y ∷ y′ ∷ m ∷ []) (h .6)))))))
+    (shaped-number A, (shaped-number A′, (shaped-record old, (shaped-number v2, (shaped-number v3, (shaped-number v4, digests))))))
     (λ i. Q.setTo (e₁ i) (e₂ i) (e₃ i) (e₄ i) (e₅ i) (e₆ i) y y′ m)
 reads-back (Q.clear A A′ old y y′ m) h =
     let e₁ = number-be64 A (h .0) in
     let e₂ = number-be64 A′ (h .1) in
     let e₃ = record-back old (h .2) in
     by-row (Q.clear A A′ old y y′ m) (omega arith) refl (omega arith)
-    (shaped-number A, (shaped-number A′, (shaped-record old, shaped-digests (y ∷ y′ ∷ m ∷ []) (h .3)))) (λ i. Q.clear (e₁ i) (e₂ i) (e₃ i) y y′ m)
+    (shaped-number A, (shaped-number A′, (shaped-record old, shaped-digests (y ∷ y′ ∷ m ∷ []) (h .3))))
+    (λ i. Q.clear (e₁ i) (e₂ i) (e₃ i) y y′ m)
 reads-back (Q.ask q A A′ r y m) h =
     let e₁ = number-be64 q (h .0) in
     let e₂ = number-be64 A (h .1) in

@@ -93,7 +93,8 @@ module _ (D : List ℕ → Dig) (DD : (l : List ℕ) → IsDigest (D l)) (w : Wo
       let y = risenTwo D f a b in
       let hy = risen-two-is D DD f a b (h .0) (h .1) in
       let was-root : y .was ≡ s .root = feet (λ u. u .was) f e (turned e) x z refl refl ∙ ap (hashOf D) fork ∙ g .root in
-      let once : (v : Leaf) → count v (leaves T) ≤ 1 = λ v. omega (arith, g .holds v, ring-once (recordHash D) v (w .items) (g .ascending)) in
+      let once : (v : Leaf) → count v (leaves T) ≤ 1 = λ v. omega
+      (arith, g .holds v, ring-once (recordHash D) v (w .items) (g .ascending)) in
       let becomes-root : y .becomes ≡ hashOf D (exchanged x z T) =
       feet (λ u. u .becomes) f e (turned e) z x refl refl ∙ ap (hashOf D) (sym (exchanged-fork x z f T fork (once x) (once z))) in
       let t = sayU2 a b y in
@@ -138,7 +139,8 @@ module _ (D : List ℕ → Dig) (DD : (l : List ℕ) → IsDigest (D l)) (w : Wo
       let y = without D s f B A B′ ω in
       let hy = without-is D DD w (g .opened) f B A B′ ω in
       let root : y .becomes ≡ s .root = ap (rise D p) (parent-nought (digest D (leaf B B′ ω)) ∙ leaf-digest D x) ∙ t .to-root in
-      let h = place-lines D DD w (g .opened) f B A B′ ω (d .small) small (t .next-small) hω (d .positive) positive (t .next-positive) (t .passes) in
+      let h = place-lines D DD w (g .opened) f B A B′ ω (d .small) small (t .next-small) hω (d .positive) positive
+      (t .next-positive) (t .passes) in
       let k = turn-last D DD w (g .opened) (placed D s f B A B′ ω) y (removal A ∷ []) hy h in
       let r = adopt-last D DD w (g .opened) (placed D s f B A B′ ω ++ (turnRound D s y ∷ [])) (turned y) (insertion A ∷ [])
       (record { old = hy .new; new = hy .old }) root k in (
@@ -151,7 +153,8 @@ module _ (D : List ℕ → Dig) (DD : (l : List ℕ) → IsDigest (D l)) (w : Wo
       → (y : Dig) × Brings D w (insertLines D s A T (w .items)) (rooted s y) (insert A clearedRecord (w .items))
   insert-brings A small positive free = by-items (w .items) refl
     where
-      by-items : (l : Items) → w .items ≡ l → (y : Dig) × Brings D w (insertLines D s A T l) (rooted s y) (insert A clearedRecord (w .items))
+      by-items : (l : Items) → w .items ≡ l → (y : Dig) × Brings D w (insertLines D s A T l) (rooted s y)
+          (insert A clearedRecord (w .items))
       by-items [] e = (alone D s A .becomes, insert-first A small positive e)
       by-items (item a r ∷ l) e =
           let i = spot (recordHash D) A a r l positive (rw e at (g .ascending)) (rw e at free) in

@@ -3,7 +3,7 @@
 use mathlib.Core.Path.{_≡_, refl, sym}
 use mathlib.Core.Bool.{true}
 use mathlib.Core.List.{List, [], _∷_, _++_, append-assoc}
-use Prim.Native.Nat.{ℕ, zero, suc, _+_, _*_, _^_, _≤_, _<_}
+use Prim.Native.Nat.{ℕ, zero, suc, _+_, _*_, _%_, _^_, _≤_, _<_}
 use native.Mathlib.Nat.{lt-of-lt-of-le, mod-lt, div-eq-of-lt, pow-le-pow-right}
 use native.Mathlib.Omega.{arith}
 use borrow.Author.Tests.{le-leb}
@@ -22,10 +22,13 @@ pub bytes-append : (a b : List ℕ) → Bytes a → Bytes b → Bytes (a ++ b)
 bytes-append [] b h k = k
 bytes-append (x ∷ a) b h k = (h .0, bytes-append a b (h .1) k)
 
+a-byte : (n : ℕ) → n % 256 < 256
+a-byte n = mod-lt n (omega arith)
+
 be64-bytes : (n : ℕ) → Bytes (be64 n)
 unfolding be64
 be64-bytes n =
-    (mod-lt _ (omega arith), (mod-lt _ (omega arith), (mod-lt _ (omega arith), (mod-lt _ (omega arith), (mod-lt _ (omega arith), (mod-lt _ (omega arith), (mod-lt _ (omega arith), (mod-lt _ (omega arith), tt))))))))
+    (a-byte _, (a-byte _, (a-byte _, (a-byte _, (a-byte _, (a-byte _, (a-byte _, (a-byte _, tt))))))))
 
 -- a digest that a line can carry: 32 bytes
 pub record IsDigest (d : Dig) : Type 0 where
@@ -50,7 +53,8 @@ ShapedAll [] (p ∷ ps) = ⊥
 ShapedAll (c ∷ cs) [] = ⊥
 ShapedAll (c ∷ cs) (p ∷ ps) = Shaped c p × ShapedAll cs ps
 
-front : (c : Carried) (b rest : List ℕ) → Shaped c b → (take (takes c (b ++ rest)) (b ++ rest) ≡ b) × (drop (takes c (b ++ rest)) (b ++ rest) ≡ rest)
+front : (c : Carried) (b rest : List ℕ) → Shaped c b → (take (takes c (b ++ rest)) (b ++ rest) ≡ b)
+    × (drop (takes c (b ++ rest)) (b ++ rest) ≡ rest)
 front c b rest h = (take-at b rest _ (sym (h .long rest)), drop-at b rest _ (sym (h .long rest)))
 
 pub takes-all : (cs : List Carried) (ps : List (List ℕ)) → ShapedAll cs ps → takesAll cs (together ps) ≡ length (together ps)
@@ -119,7 +123,8 @@ shaped-record r =
     record {
       bytes =
           bytes-append (be64 _) _ (be64-bytes _)
-          (bytes-append (be64 _) _ (be64-bytes _) (bytes-append (be64 _) _ (be64-bytes _) (bytes-append (be64 _) _ (be64-bytes _) tt)));
+          (bytes-append (be64 _) _ (be64-bytes _)
+          (bytes-append (be64 _) _ (be64-bytes _) (bytes-append (be64 _) _ (be64-bytes _) tt)));
       long = λ rest. sym (record-long r);
       fair = λ rest. refl;
       short = omega (arith, record-long r);
@@ -141,7 +146,8 @@ pub sides-back : (sides n : ℕ) (l rest : List ℕ) → Small sides → sidesIn
 sides-back sides n l rest h =
     rw (append-assoc (be64 sides) l rest, take-at (be64 sides) (l ++ rest) 8 (be64-length sides)) (number-be64 sides h)
 
-pub shaped-path : (sides : ℕ) (l : List Dig) → AllDigests l → length l ≤ 64 → sides < 2 ^ length l → Shaped aPath (pathBytes sides l)
+pub shaped-path : (sides : ℕ) (l : List Dig) → AllDigests l → length l ≤ 64 → sides < 2 ^ length l
+    → Shaped aPath (pathBytes sides l)
 shaped-path sides l h n k =
     let size : length (be64 sides ++ together l) ≡ 8 + 32 * length l =
     omega (arith, be64-length sides, together-long l h, length-append (be64 sides) (together l)) in

@@ -62,7 +62,8 @@ module _ (p : Leaf → Bool) where
       in-right true b k = refl
       in-right false b k = k
 
-      by-side : Dec (0 < count x (leaves l)) → (0 < count x (leaves l) → has p l ≡ true) → (0 < count x (leaves r) → has p r ≡ true)
+      by-side : Dec (0 < count x (leaves l)) → (0 < count x (leaves l) → has p l ≡ true)
+          → (0 < count x (leaves r) → has p r ≡ true)
           → either (has p l) (has p r) ≡ true
       by-side (yes k) f g = in-left (has p l) (has p r) (f k)
       by-side (no n) f g = in-right (has p l) (has p r) (g (omega (arith, count-append x (leaves l) (leaves r))))
@@ -83,7 +84,8 @@ module _ (p : Leaf → Bool) where
   found-occurs (branch l r) h = by-side (has p l) refl h (found-occurs l) (found-occurs r)
     where
       by-side : (b : Bool) → has p l ≡ b → either b (has p r) ≡ true → (has p l ≡ true → 0 < count (found p l) (leaves l))
-          → (has p r ≡ true → 0 < count (found p r) (leaves r)) → 0 < count (pick b (found p l) (found p r)) (leaves l ++ leaves r)
+          → (has p r ≡ true → 0 < count (found p r) (leaves r))
+          → 0 < count (pick b (found p l) (found p r)) (leaves l ++ leaves r)
       by-side true e k f g = omega (arith, f e, count-append (found p l) (leaves l) (leaves r))
       by-side false e k f g = omega (arith, g k, count-append (found p r) (leaves l) (leaves r))
 
@@ -95,7 +97,8 @@ module _ (p : Leaf → Bool) where
     where
       by-side : (b : Bool) → has p l ≡ b → either b (has p r) ≡ true → (has p l ≡ true → plug (wayTo p l) (tip (found p l)) ≡ l)
           → (has p r ≡ true → plug (wayTo p r) (tip (found p r)) ≡ r)
-          → plug (pick b (wayTo p l ++ (onRight r ∷ [])) (wayTo p r ++ (onLeft l ∷ []))) (tip (pick b (found p l) (found p r))) ≡ branch l r
+          → plug (pick b (wayTo p l ++ (onRight r ∷ [])) (wayTo p r ++ (onLeft l ∷ []))) (tip (pick b (found p l) (found p r)))
+          ≡ branch l r
       by-side true e k f g = plug-last (wayTo p l) (onRight r) _ ∙ ap (λ (t : Tree). branch t r) (f e)
       by-side false e k f g = plug-last (wayTo p r) (onLeft l) _ ∙ ap (λ (t : Tree). branch l t) (g k)
 
@@ -105,7 +108,8 @@ abbrev pub Forks : Fork → (x y : Leaf) → Tree → Type 0
 Forks f x y T = plug-two f (tip (leftOne f x y)) (tip (rightOne f x y)) ≡ T
 
 module _ (p q : Leaf → Bool) where
-  pub forked : (T : Tree) → has p T ≡ true → has q T ≡ true → found p T ≢ found q T → Forks (forkOf p q T) (found p T) (found q T) T
+  pub forked : (T : Tree) → has p T ≡ true → has q T ≡ true → found p T ≢ found q T
+      → Forks (forkOf p q T) (found p T) (found q T) T
   forked empty h k n = absurd (true≢false (sym h))
   forked (tip x) h k n = absurd (n refl)
   forked (branch l r) h k n = by-sides (has p l) (has q l) refl refl h k n (forked l) (forked r)
@@ -116,7 +120,8 @@ module _ (p q : Leaf → Bool) where
           → (has p r ≡ true → has q r ≡ true → found p r ≢ found q r → Forks (forkOf p q r) (found p r) (found q r) r)
           → Forks
           (pick a
-          (pick b (under (onRight r) (forkOf p q l)) (record { left = wayTo p l; right = wayTo q r; above = []; crossed = false }))
+          (pick b (under (onRight r) (forkOf p q l))
+          (record { left = wayTo p l; right = wayTo q r; above = []; crossed = false }))
           (pick b (record { left = wayTo q l; right = wayTo p r; above = []; crossed = true }) (under (onLeft l) (forkOf p q r))))
           (pick a (found p l) (found p r)) (pick b (found q l) (found q r)) (branch l r)
       by-sides true true e e′ h k n f g =
@@ -211,9 +216,11 @@ module _ (x y : Leaf) where
           → exchanged x y T ≡ plug-two f (tip (pick c x y)) (tip (pick c y x))
       by-side true e =
           ap (exchanged x y) (sym e)
-          ∙ exchanged-two f y x (omega (arith, count-head x x [] refl)) (omega (arith, count-head y y [] refl)) (rw e ox) (rw e oy)
+          ∙ exchanged-two f y x (omega (arith, count-head x x [] refl)) (omega (arith, count-head y y [] refl)) (rw e ox)
+          (rw e oy)
           ∙ ap₂ (λ (a b : Leaf). plug-two f (tip a) (tip b)) from-other to-other
       by-side false e =
           ap (exchanged x y) (sym e)
-          ∙ exchanged-two f x y (omega (arith, count-head x x [] refl)) (omega (arith, count-head y y [] refl)) (rw e ox) (rw e oy)
+          ∙ exchanged-two f x y (omega (arith, count-head x x [] refl)) (omega (arith, count-head y y [] refl)) (rw e ox)
+          (rw e oy)
           ∙ ap₂ (λ (a b : Leaf). plug-two f (tip a) (tip b)) to-other from-other

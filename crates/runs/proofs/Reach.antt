@@ -40,8 +40,10 @@ module _ (D : List ℕ → Dig) (DD : (l : List ℕ) → IsDigest (D l)) (w : Wo
         let up′ = fold-rises D p v′ in
         says-also D (λ i. u1 v (up i) v′ (up′ i))
         (say D (at w F b) (pathUp D s p x) (foldUp D v (sidesOf p) l ++ foldUp D v′ (sidesOf p) l)
-        (foldForms D v′ (sidesOf p) l ++ foldForms D v (sidesOf p) l) (u1 v (foldUp D v (sidesOf p) l) v′ (foldUp D v′ (sidesOf p) l))
-        Does.nothing ((h .old, (h .new, tt)), siblings-digests D DD p, omega (arith, siblings-length D p), sides-fit D p) (is-open, tt) tt refl)
+        (foldForms D v′ (sidesOf p) l ++ foldForms D v (sidesOf p) l)
+        (u1 v (foldUp D v (sidesOf p) l) v′ (foldUp D v′ (sidesOf p) l))
+        Does.nothing ((h .old, (h .new, tt)), siblings-digests D DD p, omega (arith, siblings-length D p), sides-fit D p)
+        (is-open, tt) tt refl)
 
     join-line : (x y z : Edit) → IsEdit x → IsEdit y → IsEdit z → isIssued (note D s (sayU1 x y)) b ≡ true
         → isIssued (note D s (sayU1 y z)) b ≡ true → Got D (at w F b) (joinUp D s x y z ∷ []) (sayU1 x z)
@@ -65,8 +67,10 @@ module _ (D : List ℕ → Dig) (DD : (l : List ℕ) → IsDigest (D l)) (w : Wo
         let t = sayU1 a y in
         let u = sayU1 c z in
         say D (at w F b) (pairUp D s a y c z) [] (parentForms (y .becomes) (z .becomes) ++ parentForms (y .was) (z .was))
-        (sayU2 a c (parents D y z)) Does.nothing
-        (ha .old, (hy .old, (ha .new, (hy .new, (note-digest t, (hc .old, (hz .old, (hc .new, (hz .new, (note-digest u, tt))))))))))
+        (sayU2 a c (parents D y z)) Does.nothing (
+          ha .old,
+          (hy .old, (ha .new, (hy .new, (note-digest t, (hc .old, (hz .old, (hc .new, (hz .new, (note-digest u, tt))))))))),
+        )
         (is-open, (note-fits D (s .secret) t [], (note-fits D (s .secret) u [], tt))) (i, (j, tt)) refl
 
     raise-line : (a c y z : Edit) → IsEdit a → IsEdit c → IsEdit y → IsEdit z → isIssued (note D s (sayU2 a c y)) b ≡ true
@@ -74,8 +78,10 @@ module _ (D : List ℕ → Dig) (DD : (l : List ℕ) → IsDigest (D l)) (w : Wo
     raise-line a c y z ha hc hy hz i j =
         let t = sayU2 a c y in
         let u = sayU1 y z in
-        say D (at w F b) (raiseUp D s a c y z) [] [] (sayU2 a c z) Does.nothing
-        (ha .old, (hc .old, (hy .old, (ha .new, (hc .new, (hy .new, (note-digest t, (hz .old, (hz .new, (note-digest u, tt))))))))))
+        say D (at w F b) (raiseUp D s a c y z) [] [] (sayU2 a c z) Does.nothing (
+          ha .old,
+          (hc .old, (hy .old, (ha .new, (hc .new, (hy .new, (note-digest t, (hz .old, (hz .new, (note-digest u, tt))))))))),
+        )
         (is-open, (note-fits D (s .secret) t [], (note-fits D (s .secret) u [], tt))) (i, (j, tt)) refl
 
   -- ── up a way ──
@@ -103,8 +109,10 @@ module _ (D : List ℕ → Dig) (DD : (l : List ℕ) → IsDigest (D l)) (w : Wo
       let y = risen D (c .lowest) x in
       let g = path-line F b (c .lowest) x (lowest-short p) h in
       let k = further-up (c .higher) x y (g .formed) (g .book) (higher-short p) h (risen-is D DD (c .lowest) x h) (g .got) in
-      let up = sym (rise-append D (c .lowest) (whole (c .higher)) (x .was)) ∙ ap (λ (q : Way). rise D q (x .was)) (cut-whole 64 p) in
-      let up′ = sym (rise-append D (c .lowest) (whole (c .higher)) (x .becomes)) ∙ ap (λ (q : Way). rise D q (x .becomes)) (cut-whole 64 p) in
+      let up = sym (rise-append D (c .lowest) (whole (c .higher)) (x .was))
+      ∙ ap (λ (q : Way). rise D q (x .was)) (cut-whole 64 p) in
+      let up′ = sym (rise-append D (c .lowest) (whole (c .higher)) (x .becomes))
+      ∙ ap (λ (q : Way). rise D q (x .becomes)) (cut-whole 64 p) in
       says-also D (λ i. u1 (x .was) (up i) (x .becomes) (up′ i)) (then D g k)
 
   -- ── up a fork ──
@@ -122,5 +130,6 @@ module _ (D : List ℕ → Dig) (DD : (l : List ℕ) → IsDigest (D l)) (w : Wo
       let h = one-place (g .formed) (g .book) (f .right) c hc in
       let k = pair-line (h .formed) (h .book) a y c z ha hy hc hz (h .keeps _ (g .got)) (h .got) in
       let l = one-place (k .formed) (k .book) (f .above) n hn in
-      let m = raise-line (l .formed) (l .book) a c n (risen D (f .above) n) ha hc hn (risen-is D DD (f .above) n hn) (l .keeps _ (k .got)) (l .got) in
+      let m = raise-line (l .formed) (l .book) a c n (risen D (f .above) n) ha hc hn (risen-is D DD (f .above) n hn)
+      (l .keeps _ (k .got)) (l .got) in
       then D g (then D h (then D k (then D l m)))

@@ -63,7 +63,8 @@ module _ (D : List ℕ → Dig) where
       sum x = sym (count-append x (leaves l) (leaves r)) ∙ f x
 
       -- a half that does not have y has no leaf
-      none-in : (t : Tree) → count y (leaves t) ≡ 0 → ((x : Leaf) → count x (leaves t) ≤ one x y) → (x : Leaf) → count x (leaves t) ≡ 0
+      none-in : (t : Tree) → count y (leaves t) ≡ 0 → ((x : Leaf) → count x (leaves t) ≤ one x y) → (x : Leaf)
+          → count x (leaves t) ≡ 0
       none-in t z most x = by-leaf (decLt 0 (one x y))
         where
           by-leaf : Dec (0 < one x y) → count x (leaves t) ≡ 0
@@ -71,7 +72,8 @@ module _ (D : List ℕ → Dig) where
           by-leaf (no h) = omega (arith, most x)
 
       by-side : Dec (0 < count y (leaves l)) → (((x : Leaf) → count x (leaves l) ≡ one x y) → hashOf D l ≡ hashOf D (tip y))
-          → (((x : Leaf) → count x (leaves r) ≡ one x y) → hashOf D r ≡ hashOf D (tip y)) → H D (hashOf D l) (hashOf D r) ≡ hashOf D (tip y)
+          → (((x : Leaf) → count x (leaves r) ≡ one x y) → hashOf D r ≡ hashOf D (tip y))
+          → H D (hashOf D l) (hashOf D r) ≡ hashOf D (tip y)
       by-side (yes h) u v =
           let z = none-in r (omega (arith, sum y, one-self y)) (λ x. omega (arith, sum x)) in
           beside-nought (hashOf D l) (hashOf D r) (none-hash D r z) ∙ u (λ x. omega (arith, sum x, z x))
@@ -117,7 +119,8 @@ module _ (D : List ℕ → Dig) (DD : (l : List ℕ) → IsDigest (D l)) (w : Wo
 
   -- ── one of several ──
 
-  remove-between : (A : ℕ) → Listed A clearedRecord (w .items) → Near A (recordHash D clearedRecord) (ring (recordHash D) (w .items))
+  remove-between : (A : ℕ) → Listed A clearedRecord (w .items)
+      → Near A (recordHash D clearedRecord) (ring (recordHash D) (w .items))
       → (i j : Item Record) (l : Items)
       → (y : Dig) × Brings D w (removeLines D s A T (i ∷ j ∷ l)) (rooted s y) (remove A (w .items))
   remove-between A m n i j l =
@@ -151,8 +154,11 @@ module _ (D : List ℕ → Dig) (DD : (l : List ℕ) → IsDigest (D l)) (w : Wo
       feet D DD w T g (λ u. u .was) f (relinked D s B A B′ ω) (gone D s A B′) x z x-was z-was
       ∙ ap (hashOf D) (forked (leadsTo A) (isOf A) T hx hz other) ∙ g .root in
       let h = place-lines D DD w (g .opened) f B A B′ ω (dB .small) (dA .small) (tz .next-small) hω (dB .positive) (dA .positive)
-      (tz .next-positive) gap in
-      (y .becomes, adopt-last D DD w (g .opened) (placed D s f B A B′ ω) y (removal A ∷ []) (without-is D DD w (g .opened) f B A B′ ω) root h)
+      (tz .next-positive) gap in (
+        y .becomes,
+        adopt-last D DD w (g .opened) (placed D s f B A B′ ω) y (removal A ∷ [])
+            (without-is D DD w (g .opened) f B A B′ ω) root h,
+      )
 
   pub remove-brings : (A : ℕ) → Listed A clearedRecord (w .items)
       → (y : Dig) × Brings D w (removeLines D s A T (w .items)) (rooted s y) (remove A (w .items))

@@ -28,14 +28,17 @@ module _ {R : Type 0} (h : R → Dig) where
       let x = points A B w in
       let y = points a z (h r) in
       omega (arith, count-cons x y [], count-nil x, one-most x y)
-  chain-once A B w a r (item b s ∷ l) z g = by-tail (decLt 0 (count (points A B w) (chainOf h b s l z))) (chain-once A B w b s l z (g .1))
+  chain-once A B w a r (item b s ∷ l) z g = by-tail (decLt 0 (count (points A B w) (chainOf h b s l z)))
+      (chain-once A B w b s l z (g .1))
     where
       by-tail : Dec (0 < count (points A B w) (chainOf h b s l z)) → count (points A B w) (chainOf h b s l z) ≤ 1
           → count (points A B w) (points a b (h r) ∷ chainOf h b s l z) ≤ 1
-      by-tail (no n) k = omega (arith, count-cons (points A B w) (points a b (h r)) (chainOf h b s l z), one-most (points A B w) (points a b (h r)))
+      by-tail (no n) k = omega
+          (arith, count-cons (points A B w) (points a b (h r)) (chainOf h b s l z), one-most (points A B w) (points a b (h r)))
       by-tail (yes m) k = by-head (decLt 0 (one (points A B w) (points a b (h r))))
         where
-          by-head : Dec (0 < one (points A B w) (points a b (h r))) → count (points A B w) (points a b (h r) ∷ chainOf h b s l z) ≤ 1
+          by-head : Dec (0 < one (points A B w) (points a b (h r)))
+              → count (points A B w) (points a b (h r) ∷ chainOf h b s l z) ≤ 1
           by-head (no n) = omega (arith, count-cons (points A B w) (points a b (h r)) (chainOf h b s l z))
           by-head (yes e) =
               let q = one-same (points A B w) (points a b (h r)) e in
@@ -57,7 +60,8 @@ module _ {R : Type 0} (h : R → Dig) where
   next-chain A B w a r (item b s ∷ l) z m = by-place (count-cases _ _ _ m) (next-chain A B w b s l z)
     where
       by-place : (points A B w ≡ points a b (h r)) ⊎ (0 < count (points A B w) (chainOf h b s l z))
-          → (0 < count (points A B w) (chainOf h b s l z) → (B ≡ z) ⊎ ((t : R) × Listed B t l)) → (B ≡ z) ⊎ ((t : R) × Listed B t (item b s ∷ l))
+          → (0 < count (points A B w) (chainOf h b s l z) → (B ≡ z) ⊎ ((t : R) × Listed B t l))
+          → (B ≡ z) ⊎ ((t : R) × Listed B t (item b s ∷ l))
       by-place (inl e) f = inr (s, List·Memᴰ·head {x = item b s} (cc))
       by-place (inr k) f = later (f k)
         where
@@ -75,14 +79,16 @@ module _ {R : Type 0} (h : R → Dig) where
 
   -- no two leaves have one item
   first-chain : (A B B′ : ℕ) (w w′ : Dig) (a : ℕ) (r : R) (l : List (Item R)) (z : ℕ) → Ascending a l
-      → 0 < count (points A B w) (chainOf h a r l z) → 0 < count (points A B′ w′) (chainOf h a r l z) → points A B w ≡ points A B′ w′
+      → 0 < count (points A B w) (chainOf h a r l z) → 0 < count (points A B′ w′) (chainOf h a r l z)
+      → points A B w ≡ points A B′ w′
   first-chain A B B′ w w′ a r [] z g m n = let e = count-single _ _ m in let f = count-single _ _ n in cc
   first-chain A B B′ w w′ a r (item b s ∷ l) z g m n =
       by-places (count-cases _ _ _ m) (count-cases _ _ _ n) (first-chain A B B′ w w′ b s l z (g .1))
     where
       by-places : (points A B w ≡ points a b (h r)) ⊎ (0 < count (points A B w) (chainOf h b s l z))
           → (points A B′ w′ ≡ points a b (h r)) ⊎ (0 < count (points A B′ w′) (chainOf h b s l z))
-          → (0 < count (points A B w) (chainOf h b s l z) → 0 < count (points A B′ w′) (chainOf h b s l z) → points A B w ≡ points A B′ w′)
+          → (0 < count (points A B w) (chainOf h b s l z) → 0 < count (points A B′ w′) (chainOf h b s l z)
+          → points A B w ≡ points A B′ w′)
           → points A B w ≡ points A B′ w′
       by-places (inl e) (inl f) rec = cc
       by-places (inl e) (inr k) rec = let p : A ≡ a = cc in absurd (omega (arith, bounds h A B′ w′ b s l z (g .1) k .0, g .0))
@@ -91,7 +97,8 @@ module _ {R : Type 0} (h : R → Dig) where
 
   -- and none lead to one item
   second-chain : (A A′ B : ℕ) (w w′ : Dig) (a : ℕ) (r : R) (l : List (Item R)) (z : ℕ) → z ≤ a → Ascending a l
-      → 0 < count (points A B w) (chainOf h a r l z) → 0 < count (points A′ B w′) (chainOf h a r l z) → points A B w ≡ points A′ B w′
+      → 0 < count (points A B w) (chainOf h a r l z) → 0 < count (points A′ B w′) (chainOf h a r l z)
+      → points A B w ≡ points A′ B w′
   second-chain A A′ B w w′ a r [] z hz g m n = let e = count-single _ _ m in let f = count-single _ _ n in cc
   second-chain A A′ B w w′ a r (item b s ∷ l) z hz g m n =
       by-places (count-cases _ _ _ m) (count-cases _ _ _ n) (second-chain A A′ B w w′ b s l z (omega (arith, g .0)) (g .1))
@@ -106,7 +113,8 @@ module _ {R : Type 0} (h : R → Dig) where
 
       by-places : (points A B w ≡ points a b (h r)) ⊎ (0 < count (points A B w) (chainOf h b s l z))
           → (points A′ B w′ ≡ points a b (h r)) ⊎ (0 < count (points A′ B w′) (chainOf h b s l z))
-          → (0 < count (points A B w) (chainOf h b s l z) → 0 < count (points A′ B w′) (chainOf h b s l z) → points A B w ≡ points A′ B w′)
+          → (0 < count (points A B w) (chainOf h b s l z) → 0 < count (points A′ B w′) (chainOf h b s l z)
+          → points A B w ≡ points A′ B w′)
           → points A B w ≡ points A′ B w′
       by-places (inl e) (inl f) rec = cc
       by-places (inl e) (inr k) rec = absurd (not-b A′ w′ (cc) k)

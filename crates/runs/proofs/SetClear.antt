@@ -44,7 +44,8 @@ module _ (D : List ℕ → Dig) (DD : (l : List ℕ) → IsDigest (D l)) (w : Wo
     was-root : rise D (wayTo (isOf A) T) (rewritten D s A new T (w .items) .was) ≡ s .root
     was-digest : IsDigest (rise D (wayTo (isOf A) T) (rewritten D s A new T (w .items) .was))
     new-digest : IsDigest (rewrittenRoot A new)
-    note-digest : IsDigest (note D s (sayU1 (rewritten D s A new T (w .items)) (risen D (wayTo (isOf A) T) (rewritten D s A new T (w .items)))))
+    note-digest : IsDigest
+        (note D s (sayU1 (rewritten D s A new T (w .items)) (risen D (wayTo (isOf A) T) (rewritten D s A new T (w .items)))))
 
   rewrites : (A : ℕ) (r new : Record) → Listed A r (w .items) → Rewrites A r new
   rewrites A r new m =
@@ -88,10 +89,13 @@ module _ (D : List ℕ → Dig) (DD : (l : List ℕ) → IsDigest (D l)) (w : Wo
         s4,
         (u .was-digest, (u .new-digest, (u .note-digest, tt))),
       ) in
-      let n : NoneFails (needs D s q) = (
-        is-open D DD w (g .opened),
-        (not-zero A (u .item .positive), (not-zero A′ (u .spot .next-positive), (u .item .sound, (below-top (s .counter .0) below, (note-fits D (s .secret) (sayU1 e (risen D p e)) [], (at-root (rise D p (e .was)) (s .root) (u .was-root), tt)))))),
-      ) in
+      let ways-root = at-root (rise D p (e .was)) (s .root) (u .was-root) in
+      let fits = note-fits D (s .secret) (sayU1 e (risen D p e)) [] in
+      let numbered = not-zero A (u .item .positive) in
+      let next-numbered = not-zero A′ (u .spot .next-positive) in
+      let raisable = below-top (s .counter .0) below in
+      let n : NoneFails (needs D s q) =
+      (is-open D DD w (g .opened), (numbered, (next-numbered, (u .item .sound, (raisable, (fits, (ways-root, tt))))))) in
       let end = lands D v q ok n in
       after-got D h
       (record {
@@ -101,7 +105,8 @@ module _ (D : List ℕ → Dig) (DD : (l : List ℕ) → IsDigest (D l)) (w : Wo
       })
 
   pub clear-brings : (A : ℕ) (r : Record) → Listed A r (w .items) → blank r ≡ false → s .counter .0 < top
-      → Brings D w (clearLines D s A T (w .items)) (raised s (rewrittenRoot A clearedRecord)) (putRecord A clearedRecord (w .items))
+      → Brings D w (clearLines D s A T (w .items)) (raised s (rewrittenRoot A clearedRecord))
+      (putRecord A clearedRecord (w .items))
   clear-brings A r m recorded below =
       let u = rewrites A r clearedRecord m in
       let p = wayTo (isOf A) T in
@@ -115,9 +120,14 @@ module _ (D : List ℕ → Dig) (DD : (l : List ℕ) → IsDigest (D l)) (w : Wo
       let ok : Sendable q =
       (u .item .small, u .spot .next-small, u .item .small-record, (u .was-digest, (u .new-digest, (u .note-digest, tt)))) in
       let not-blank : blank old ≡ false = ap blank (u .record-same) ∙ recorded in
+      let ways-root = at-root (rise D p (e .was)) (s .root) (u .was-root) in
+      let fits = note-fits D (s .secret) (sayU1 e (risen D p e)) [] in
+      let numbered = not-zero A (u .item .positive) in
+      let next-numbered = not-zero A′ (u .spot .next-positive) in
+      let raisable = below-top (s .counter .0) below in
       let n : NoneFails (needs D s q) = (
         is-open D DD w (g .opened),
-        (not-zero A (u .item .positive), (not-zero A′ (u .spot .next-positive), (u .item .sound, (not-blank, (below-top (s .counter .0) below, (note-fits D (s .secret) (sayU1 e (risen D p e)) [], (at-root (rise D p (e .was)) (s .root) (u .was-root), tt))))))),
+        (numbered, (next-numbered, (u .item .sound, (not-blank, (raisable, (fits, (ways-root, tt))))))),
       ) in
       let end = lands D v q ok n in
       after-got D h

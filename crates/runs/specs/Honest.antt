@@ -69,12 +69,14 @@ module _ (D : List ℕ → Dig) (s : Registers) where
   -- U1 from a to y and from b to z, the two halves of a node
   abbrev pub pairUp : (a y b z : Edit) → Request
   pairUp a y b z =
-      pair (a .was) (y .was) (a .becomes) (y .becomes) (note (sayU1 a y)) (b .was) (z .was) (b .becomes) (z .becomes) (note (sayU1 b z))
+      pair (a .was) (y .was) (a .becomes) (y .becomes) (note (sayU1 a y)) (b .was) (z .was) (b .becomes) (z .becomes)
+      (note (sayU1 b z))
 
   -- U2 from a and b to y, and U1 from y to z
   abbrev pub raiseUp : (a b y z : Edit) → Request
   raiseUp a b y z =
-      raise (a .was) (b .was) (y .was) (a .becomes) (b .becomes) (y .becomes) (note (sayU2 a b y)) (z .was) (z .becomes) (note (sayU1 y z))
+      raise (a .was) (b .was) (y .was) (a .becomes) (b .becomes) (y .becomes) (note (sayU2 a b y)) (z .was) (z .becomes)
+      (note (sayU1 y z))
 
   abbrev pub twoPlaces : Fork → (a b : Edit) → List Request
   twoPlaces f a b =

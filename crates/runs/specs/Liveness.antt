@@ -70,7 +70,8 @@ module _ (D : List ℕ → Dig) where
   -- with exactly those two leaves exchanged"
   abbrev pub Fulfilled : World → Tree → Wish → (turns : List Turn) → Type 0
   Fulfilled w T (insertItem A) ts =
-      (fed w ts .items ≡ insert A clearedRecord (w .items)) × (fed w ts .registers ≡ rooted (w .registers) (fed w ts .registers .root))
+      (fed w ts .items ≡ insert A clearedRecord (w .items))
+      × (fed w ts .registers ≡ rooted (w .registers) (fed w ts .registers .root))
   Fulfilled w T (removeItem A) ts =
       (fed w ts .items ≡ remove A (w .items)) × (fed w ts .registers ≡ rooted (w .registers) (fed w ts .registers .root))
   Fulfilled w T (swapPlaces A B) ts =
