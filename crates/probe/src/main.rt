@@ -2,9 +2,12 @@
 // input is waited for:
 // - a message in hexadecimal: its digest;
 // - `r`, four hexadecimal digits and a line: what reading the line into a frame space of so many bytes comes to;
-// - `w`, four hexadecimal digits and a frame in hexadecimal: what writing it into a line space of so many bytes does.
+// - `w`, four hexadecimal digits and a frame in hexadecimal: what writing it into a line space of so many bytes does;
+// - `m`, four hexadecimal digits, and in hexadecimal registers and the bytes of a line: what the module, called with these
+//   registers, that line and a reply space of so many bytes, does.
 // The answer to r and w is the refusal number (00 where there is none) and the digest of the whole space afterwards,
-// each byte of which was ee before. `?` answers what is none of these.
+// each byte of which was ee before; to m, all in hexadecimal, the refusal number, the length of the reply's line in four
+// digits, the blocks, the registers afterwards and that digest. `?` answers what is none of these.
 use lines::Read;
 use lines::Wrote;
 use pieces::Cut;
@@ -13,6 +16,8 @@ ghost use mathlib.Core.List.{_++_, _∷_, []};
 ghost use Prim.Native.Nat.{_≤_};
 ghost use lib.ListN.{length, drop};
 ghost use Rattle.probe.specs.Answer.{answerOf, heldOf};
+
+mod direct;
 
 // What one read left: go on with so many bytes of a line held, or the input ended there.
 enum After {
@@ -113,8 +118,8 @@ fn read_probe(line: &[u8]) {
     read_into(&line[5..], &mut space[0..size]);
 }
 
-// The frame behind a write probe's size, and its length; 65,536 where there is none.
-fn frame_of(line: &[u8], frame: &mut [u8]) -> usize {
+// The bytes that the digits behind a probe's size stand for, and how many; 65,536 where they stand for none or do not fit.
+fn bytes_of(line: &[u8], space: &mut [u8]) -> usize {
     if line.len() < 5 {
         return 65536;
     }
@@ -125,7 +130,7 @@ fn frame_of(line: &[u8], frame: &mut [u8]) -> usize {
     if !hex::all_digits(digits) {
         return 65536;
     }
-    if !hex::read(digits, frame) {
+    if !hex::read(digits, space) {
         return 65536;
     }
     digits.len() / 2
@@ -143,7 +148,7 @@ fn write_probe(line: &[u8]) {
         return;
     }
     let mut frame = [0u8; 4096];
-    let n = frame_of(line, &mut frame);
+    let n = bytes_of(line, &mut frame);
     if 4096 < n {
         print_none();
         return;
@@ -165,6 +170,7 @@ fn print_answer(line: &[u8]) {
     match fields::byte_at(line, 0) {
         b'r' => read_probe(line),
         b'w' => write_probe(line),
+        b'm' => direct::direct_probe(line),
         _ => message_probe(line),
     }
 }
