@@ -6,6 +6,7 @@
 //! and whole sessions against an independent second program, are run and
 //! compared."
 
+pub mod direct;
 pub mod explain;
 pub mod frames;
 pub mod hostile;

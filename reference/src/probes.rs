@@ -1,5 +1,5 @@
 //! Probes of the line reader, the line writer and the digest: made from a seed,
-//! and answered.
+//! and answered. Direct calls of the module are answered here too.
 //!
 //! Document 01, "Lines": reading a line and writing a frame refuse 1, 2, 3 and then
 //! 15, "writing nothing"; "When accepted, each writes its own bytes only". So each
@@ -9,12 +9,14 @@
 //!
 //! - `rSSSS` and a line of any bytes: to be read into frame space of SSSS bytes;
 //! - `wSSSS` and the digits of a frame: to be written into line space of SSSS bytes;
+//! - `mSSSS` and digits: a direct call of the module (`direct`);
 //! - the digits of a message: to be digested.
 //!
-//! All digits are lower-case hexadecimal. The answer to the first two is the refusal
+//! All digits are lower-case hexadecimal. The answer to `r` and `w` is the refusal
 //! number, 00 if accepted, in two digits, and the digest of the whole space; to a
 //! message, its digest; to any other line, `?`.
 
+use crate::direct::Call;
 use crate::frames::{read_line, value, write_frame, KINDS, LONGEST_FRAME, MOST_SIBLINGS};
 use crate::hostile::{
     below_bit, digits, digits_of_length, path, random_frame, with_byte, with_kind,
@@ -39,6 +41,7 @@ pub fn answer(probe: &[u8]) -> Vec<u8> {
     let answer = match probe.split_first() {
         Some((b'r', rest)) => answer_read(rest),
         Some((b'w', rest)) => answer_write(rest),
+        Some((b'm', rest)) => Call::of(rest).map(|call| call.answer()),
         _ => bytes_of(probe, MOST_MESSAGE).map(|message| digest(&message).to_vec()),
     };
     let mut line = answer.map_or_else(|| b"?".to_vec(), |bytes| digits(&bytes));
@@ -58,14 +61,14 @@ fn answer_write(rest: &[u8]) -> Option<Vec<u8>> {
 }
 
 /// The space that SSSS names, and what stands behind it.
-fn split_space(rest: &[u8]) -> Option<(usize, &[u8])> {
+pub(crate) fn split_space(rest: &[u8]) -> Option<(usize, &[u8])> {
     let named: [u8; 2] = bytes_of(rest.get(..4)?, 2)?.try_into().ok()?;
     let space = usize::from(u16::from_be_bytes(named));
     Some((space, &rest[4..])).filter(|_| space <= MOST_SPACE)
 }
 
 /// The bytes of digits, which may be none; at most `most` bytes.
-fn bytes_of(digits: &[u8], most: usize) -> Option<Vec<u8>> {
+pub(crate) fn bytes_of(digits: &[u8], most: usize) -> Option<Vec<u8>> {
     if digits.len() % 2 != 0 || digits.len() > 2 * most {
         return None;
     }
@@ -115,7 +118,7 @@ fn write_probe(frame: &[u8], random: &mut Random) -> Vec<u8> {
     with_space(b'w', space(2 * frame.len() + 1, random), &digits(frame))
 }
 
-fn with_space(letter: u8, space: usize, rest: &[u8]) -> Vec<u8> {
+pub(crate) fn with_space(letter: u8, space: usize, rest: &[u8]) -> Vec<u8> {
     [&[letter][..], format!("{:04x}", space).as_bytes(), rest].concat()
 }
 
@@ -152,7 +155,7 @@ fn good_path(levels: usize, random: &mut Random) -> Vec<u8> {
 }
 
 /// Lines that are mostly no digits of a frame.
-fn damaged_line(random: &mut Random) -> Vec<u8> {
+pub(crate) fn damaged_line(random: &mut Random) -> Vec<u8> {
     let good = digits(&good_frame(random));
     match random.below(11) {
         0 => Vec::new(),
@@ -239,7 +242,7 @@ fn any_bytes(limit: usize, random: &mut Random) -> Vec<u8> {
 }
 
 /// Frames that are mostly refused. None is longer than a probe may carry.
-fn damaged_frame(random: &mut Random) -> Vec<u8> {
+pub(crate) fn damaged_frame(random: &mut Random) -> Vec<u8> {
     let good = good_frame(random);
     match random.below(14) {
         0 => Vec::new(),
@@ -356,7 +359,7 @@ fn stray(random: &mut Random) -> Vec<u8> {
     }
 }
 
-fn too_much_space(random: &mut Random) -> usize {
+pub(crate) fn too_much_space(random: &mut Random) -> usize {
     match random.below(3) {
         0 => MOST_SPACE + 1,
         1 => 0xffff,

@@ -1,8 +1,8 @@
 //! The five programs as they are run: `reference`, `sessions`, `vectors`, `probe` and
 //! `probes`.
 
-use reference::probes;
 use reference::sessions::generate;
+use reference::{direct, probes};
 use std::io::{BufRead, BufReader, Write};
 use std::path::{Path, PathBuf};
 use std::process::{Command, Output, Stdio};
@@ -165,11 +165,16 @@ fn a_probe_longer_than_is_kept_gets_one_answer() {
 /// this process.
 #[test]
 fn probes_through_the_programs() {
-    let made = run(PROBES, &["42", "3000"], b"");
+    same_through_the_programs(&["42", "3000"], |sink| probes::generate(42, 3000, sink));
+    same_through_the_programs(&["--direct", "42", "3000"], |sink| direct::generate(42, 3000, sink));
+}
+
+fn same_through_the_programs(arguments: &[&str], generate: fn(&mut dyn FnMut(&[u8]))) {
+    let made = run(PROBES, arguments, b"");
     assert!(made.status.success());
     let mut lines = Vec::new();
     let mut answers = Vec::new();
-    probes::generate(42, 3000, &mut |probe| {
+    generate(&mut |probe| {
         lines.extend_from_slice(probe);
         lines.push(b'\n');
         answers.extend(probes::answer(probe));
@@ -203,7 +208,7 @@ fn a_session_through_the_programs() {
 
 #[test]
 fn bad_arguments_get_a_usage_message_and_status_2() {
-    let cases: [(&str, &[&str]); 16] = [
+    let cases: [(&str, &[&str]); 18] = [
         (REFERENCE, &["--tracing"]),
         (REFERENCE, &["--trace", "more"]),
         (SESSIONS, &[]),
@@ -220,6 +225,8 @@ fn bad_arguments_get_a_usage_message_and_status_2() {
         (PROBES, &["1", "2", "3"]),
         (PROBES, &["x", "2"]),
         (PROBES, &["1", "-2"]),
+        (PROBES, &["--direct", "1"]),
+        (PROBES, &["1", "2", "--direct"]),
     ];
     for (program, arguments) in cases {
         let output = run(program, arguments, b"");
