@@ -1,8 +1,9 @@
-// Direct calls of the module: registers, reply spaces and lines that no session reaches from an unopened module with
-// its fixed reply space, as a counter at its top, or a line that holds a 0A.
+// Direct calls of the module, with its registers by value and where they lie: for registers, reply spaces and lines that
+// no session reaches from an unopened module with its fixed reply space, as a counter at its top, or a line that holds 0A.
 use module::Answered;
 use paper::Registers;
 use paper::Revision;
+ghost use Rattle.module.specs.Laws.{Promised};
 
 // The registers in 73 bytes: root, counter, secret, and 1 where they are open.
 fn registers_in(bytes: &[u8]) -> Registers {
@@ -53,13 +54,33 @@ fn print_answered(a: Answered, space: &[u8]) {
     io::write_all(1, &line);
 }
 
-fn call(r: Registers, line: &[u8], space: &mut [u8]) {
+// The call on registers where they lie, which then come back by value. A `&mut` of a struct is not covered, so its proof is
+// a walk by hand.
+fn answer_there(r: Registers, line: &[u8], space: &mut [u8]) -> Answered
+    ensures { λ o. ⌜ Promised r (now (line .entry)) (now (space .entry)) o (now (space .exit)) ⌝ }
+{
+    let mut registers = r;
+    let said = module::answer_here(&mut registers, line, space);
+    Answered {
+        registers: registers,
+        refused: said.refused,
+        length: said.length,
+        blocks: said.blocks,
+    }
+}
+
+fn call(there: bool, r: Registers, line: &[u8], space: &mut [u8]) {
+    if there {
+        let a = answer_there(r, line, space);
+        print_answered(a, space);
+        return;
+    }
     let a = module::answer(r, line, space);
     print_answered(a, space);
 }
 
 // A question of so many bytes of reply space; its bytes are those of the registers and those of the line.
-fn ask(size: usize, question: &[u8]) {
+fn ask(there: bool, size: usize, question: &[u8]) {
     if 4400 < size {
         crate::print_none();
         return;
@@ -74,6 +95,7 @@ fn ask(size: usize, question: &[u8]) {
     }
     let mut space = [0xeeu8; 4400];
     call(
+        there,
         registers_in(&question[0..73]),
         &question[73..],
         &mut space[0..size],
@@ -87,5 +109,6 @@ pub(crate) fn direct_probe(line: &[u8]) {
         crate::print_none();
         return;
     }
-    ask(crate::size_of(line), &question[0..n]);
+    let there = fields::byte_at(line, 0) == b'h';
+    ask(there, crate::size_of(line), &question[0..n]);
 }

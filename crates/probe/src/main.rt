@@ -4,9 +4,10 @@
 // - `r`, four hexadecimal digits and a line: what reading the line into a frame space of so many bytes comes to;
 // - `w`, four hexadecimal digits and a frame in hexadecimal: what writing it into a line space of so many bytes does;
 // - `m`, four hexadecimal digits, and in hexadecimal registers and the bytes of a line: what the module, called with these
-//   registers, that line and a reply space of so many bytes, does.
+//   registers, that line and a reply space of so many bytes, does;
+// - `h` and the same: the same, called on the registers where they lie.
 // The answer to r and w is the refusal number (00 where there is none) and the digest of the whole space afterwards,
-// each byte of which was ee before; to m, all in hexadecimal, the refusal number, the length of the reply's line in four
+// each byte of which was ee before; to m and h, all in hexadecimal, the refusal number, the length of the reply's line in four
 // digits, the blocks, the registers afterwards and that digest. `?` answers what is none of these.
 use lines::Read;
 use lines::Wrote;
@@ -170,7 +171,7 @@ fn print_answer(line: &[u8]) {
     match fields::byte_at(line, 0) {
         b'r' => read_probe(line),
         b'w' => write_probe(line),
-        b'm' => direct::direct_probe(line),
+        b'm' | b'h' => direct::direct_probe(line),
         _ => message_probe(line),
     }
 }
