@@ -5,9 +5,10 @@
 //! module would need 2^64 - 1 changes for refusal 7, and a program's reply space is
 //! never under 195 bytes, so that its sessions show no 15. Here both are a call away.
 //!
-//! A direct call is the probe `mSSSS` and digits. SSSS is the reply space, each byte of
-//! which is ee before, and the digits stand for 73 bytes of registers (root, counter,
-//! secret, 01 if open or 00) and the bytes of the line.
+//! A direct call is the probe `mSSSS` and digits, or `hSSSS` and digits: the call with
+//! the registers by value, and where they lie. Here both are answered alike. SSSS is the
+//! reply space, each byte of which is ee before, and the digits stand for 73 bytes of
+//! registers (root, counter, secret, 01 if open or 00) and the bytes of the line.
 //!
 //! The answer has the refusal number, the length of the reply's line (2 bytes), the
 //! blocks (8 bytes), the registers afterwards and the digest of the whole reply space.
@@ -44,10 +45,10 @@ impl Call {
         Some(Call { space, registers, line: bytes[REGISTERS..].to_vec() })
     }
 
-    /// The probe that asks for this call.
-    pub fn probe(&self) -> Vec<u8> {
+    /// The probe that asks for this call by a letter, m or h.
+    pub fn probe(&self, letter: u8) -> Vec<u8> {
         let question = [spelled(&self.registers), self.line.clone()].concat();
-        with_space(b'm', self.space, &digits(&question))
+        with_space(letter, self.space, &digits(&question))
     }
 
     /// What the call comes to, as the answer's bytes.
@@ -90,7 +91,8 @@ fn spelled(registers: &Registers) -> Vec<u8> {
 pub fn generate(seed: u64, probes: usize, sink: &mut dyn FnMut(&[u8])) {
     let mut random = Random::new(seed);
     for _ in 0..probes {
-        let probe = call(&mut random).probe();
+        let letter = if random.percent(60) { b'm' } else { b'h' };
+        let probe = call(&mut random).probe(letter);
         let probe = if random.percent(4) { stray(probe, &mut random) } else { probe };
         sink(&probe);
     }

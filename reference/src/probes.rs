@@ -9,7 +9,7 @@
 //!
 //! - `rSSSS` and a line of any bytes: to be read into frame space of SSSS bytes;
 //! - `wSSSS` and the digits of a frame: to be written into line space of SSSS bytes;
-//! - `mSSSS` and digits: a direct call of the module (`direct`);
+//! - `mSSSS` or `hSSSS` and digits: a direct call of the module (`direct`);
 //! - the digits of a message: to be digested.
 //!
 //! All digits are lower-case hexadecimal. The answer to `r` and `w` is the refusal
@@ -41,7 +41,7 @@ pub fn answer(probe: &[u8]) -> Vec<u8> {
     let answer = match probe.split_first() {
         Some((b'r', rest)) => answer_read(rest),
         Some((b'w', rest)) => answer_write(rest),
-        Some((b'm', rest)) => Call::of(rest).map(|call| call.answer()),
+        Some((b'm' | b'h', rest)) => Call::of(rest).map(|call| call.answer()),
         _ => bytes_of(probe, MOST_MESSAGE).map(|message| digest(&message).to_vec()),
     };
     let mut line = answer.map_or_else(|| b"?".to_vec(), |bytes| digits(&bytes));
