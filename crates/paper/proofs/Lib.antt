@@ -4,4 +4,5 @@ pub mod Early
 pub mod Encoding
 pub mod Frames
 pub mod Older
+pub mod Shortcuts
 pub mod Verdicts

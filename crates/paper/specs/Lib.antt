@@ -6,4 +6,5 @@ pub mod Module
 pub mod Ceilings
 pub mod Collisions
 pub mod Older
+pub mod Shortcuts
 pub mod ByHand
