@@ -94,7 +94,7 @@ module _ (D : List ℕ → Dig) (DD : (l : List ℕ) → IsDigest (D l)) where
     -- ── 0b adopt ──
 
     pub adopt-last : (qs : List Request) (y : Edit) (c : List Step) → IsEdit y → y .was ≡ s .root → Heads w qs (sayEI y) c
-        → Brings D w (qs ++ (takeOver D s y ∷ [])) (rooted s (y .becomes)) (doSteps c (w .items))
+        → Brings D w (qs ++ (takeOver D s y ∷ [])) (rooted s (y .becomes)) (doSteps c (w .items)) (w .changed)
     adopt-last qs y c hy e h =
         let m = note D s (sayEI y) in
         let q = takeOver D s y in
@@ -112,6 +112,7 @@ module _ (D : List ℕ → Dig) (DD : (l : List ℕ) → IsDigest (D l)) where
           registers-are = ap (λ (u : World). u .registers) end;
           items-are = ap (λ (u : World). u .items) end ∙ ap (λ (d : List Step). doSteps d (w .items))
               (head-stands D m c (h .book));
+          changed-are = ap (λ (u : World). u .changed) end;
         }
 
     -- ── 07 first ──

@@ -83,6 +83,7 @@ module _ (D : List ℕ → Dig) (DD : (l : List ℕ) → IsDigest (D l)) (w : Wo
     pub fair : Fair D w qs
     pub registers-are : run D w qs .registers ≡ s
     pub items-are : run D w qs .items ≡ w .items
+    pub changed-are : run D w qs .changed ≡ w .changed
     pub reply : TrueReply D q (w .items) (lastReply D w (turnsOf qs))
 
   -- behind lines that change nothing
@@ -90,15 +91,17 @@ module _ (D : List ℕ → Dig) (DD : (l : List ℕ) → IsDigest (D l)) (w : Wo
       (n : NoneFails (needs D s p))
       → Fair D (at w (h .formed) (h .book)) (p ∷ []) → run D (at w (h .formed) (h .book)) (p ∷ []) .registers ≡ s
       → run D (at w (h .formed) (h .book)) (p ∷ []) .items ≡ w .items
+      → run D (at w (h .formed) (h .book)) (p ∷ []) .changed ≡ w .changed
       → TrueReply D q (w .items) (toldAt D (at w (h .formed) (h .book)) (turnOf p) .says) → Answers q (a ++ (p ∷ []))
-  answers-last {a} q h p ok n f e₁ e₂ t =
-      let b : Brings D (at w (h .formed) (h .book)) (p ∷ []) s (w .items) =
-      record { fair = f; registers-are = e₁; items-are = e₂ } in
+  answers-last {a} q h p ok n f e₁ e₂ e₃ t =
+      let b : Brings D (at w (h .formed) (h .book)) (p ∷ []) s (w .items) (w .changed) =
+      record { fair = f; registers-are = e₁; items-are = e₂; changed-are = e₃ } in
       let c = after-got D h b in
       record {
         fair = c .fair;
         registers-are = c .registers-are;
         items-are = c .items-are;
+        changed-are = c .changed-are;
         reply =
             subst (TrueReply D q (w .items))
             (sym (last-is D w a p ∙ ap (λ (v : World). toldAt D v (turnOf p) .says) (h .ends))) t;
@@ -150,7 +153,7 @@ module _ (D : List ℕ → Dig) (DD : (l : List ℕ) → IsDigest (D l)) (w : Wo
         subst (Answers q)
         (append-assoc (onePlace D s p (record { was = x; becomes = x })) (Q.witness x y (note D s (u1 x y x y)) ∷ []) (a ∷ []))
         (answers-last q h a ok n (fair-one D v a ok n (h .got, tt) [] tt) (ap (λ (u : World). u .registers) end)
-        (ap (λ (u : World). u .items) end)
+        (ap (λ (u : World). u .items) end) (ap (λ (u : World). u .changed) end)
         (finding (findingOf q A A′ r) true-of (ap (λ (u : Told). u .says) (told-is D v a ok n))))
       where
         at-z : (z : Leaf) (v : Dig) → v ≡ hashIn z → z ≡ points (itemOf z) (nextOf z) v
@@ -167,6 +170,7 @@ module _ (D : List ℕ → Dig) (DD : (l : List ℕ) → IsDigest (D l)) (w : Wo
           fair = fair-one D w a small n tt [] tt;
           registers-are = ap (λ (u : World). u .registers) end;
           items-are = ap (λ (u : World). u .items) end;
+          changed-are = ap (λ (u : World). u .changed) end;
           reply = nothing-listed e (ap (λ (u : Told). u .says) (told-is D w a small n));
         }
 

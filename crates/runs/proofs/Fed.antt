@@ -153,19 +153,21 @@ module _ (D : List ℕ → Dig) where
         got = head-issued (note D (w .registers) t) (meaning (w .book) c) (w .book);
       }
 
-  -- ── lines that bring about other registers and another list ──
+  -- ── lines that bring about other registers, another list and a number of record changes ──
 
-  pub record Brings (w : World) (qs : List Request) (s′ : Registers) (l : Items) : Type 0 where
+  pub record Brings (w : World) (qs : List Request) (s′ : Registers) (l : Items) (n : ℕ) : Type 0 where
     pub fair : Fair w qs
     pub registers-are : run w qs .registers ≡ s′
     pub items-are : run w qs .items ≡ l
+    pub changed-are : run w qs .changed ≡ n
 
-  pub after-got : {w : World} {a b : List Request} {t : Memo} {s′ : Registers} {l : Items} (g : Got w a t)
-      → Brings (at w (g .formed) (g .book)) b s′ l → Brings w (a ++ b) s′ l
+  pub after-got : {w : World} {a b : List Request} {t : Memo} {s′ : Registers} {l : Items} {n : ℕ} (g : Got w a t)
+      → Brings (at w (g .formed) (g .book)) b s′ l n → Brings w (a ++ b) s′ l n
   after-got {w} {a} {b} g h =
       let e : run w (a ++ b) ≡ run (at w (g .formed) (g .book)) b = run-append w a b ∙ ap (λ (v : World). run v b) (g .ends) in
       record {
         fair = fair-append w a b (g .fair) (subst (λ (v : World). Fair v b) (sym (g .ends)) (h .fair));
         registers-are = ap (λ (v : World). v .registers) e ∙ h .registers-are;
         items-are = ap (λ (v : World). v .items) e ∙ h .items-are;
+        changed-are = ap (λ (v : World). v .changed) e ∙ h .changed-are;
       }

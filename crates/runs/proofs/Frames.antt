@@ -123,8 +123,10 @@ reads-back (Q.setTo A A′ old v2 v3 v4 y y′ m) h =
     let e₅ = number-be64 v3 (h .4) in
     let e₆ = number-be64 v4 (h .5) in
     let digests = shaped-digests (y ∷ y′ ∷ m ∷ []) (h .6) in
-    by-row (Q.setTo A A′ old v2 v3 v4 y y′ m) (omega arith) refl (omega arith)
-    (shaped-number A, (shaped-number A′, (shaped-record old, (shaped-number v2, (shaped-number v3, (shaped-number v4, digests))))))
+    by-row (Q.setTo A A′ old v2 v3 v4 y y′ m) (omega arith) refl (omega arith) (
+      shaped-number A,
+      (shaped-number A′, (shaped-record old, (shaped-number v2, (shaped-number v3, (shaped-number v4, digests))))),
+    )
     (λ i. Q.setTo (e₁ i) (e₂ i) (e₃ i) (e₄ i) (e₅ i) (e₆ i) y y′ m)
 reads-back (Q.clear A A′ old y y′ m) h =
     let e₁ = number-be64 A (h .0) in

@@ -8,6 +8,7 @@ pub mod Effects
 pub mod Fed
 pub mod Formed
 pub mod Frames
+pub mod Grown
 pub mod Lines
 pub mod Live
 pub mod Moves

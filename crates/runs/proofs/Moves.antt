@@ -15,7 +15,7 @@ use Rattle.paper.specs.Requests.{Request}
 use Rattle.paper.specs.Refusals.{clearedRecord, noneFits}
 use Rattle.paper.specs.Answers as Does
 use Rattle.paper.specs.Answers.{rooted}
-use Rattle.rings.specs.Trees.{Leaf, points, Tree, tip, leaves, hashOf, count}
+use Rattle.rings.specs.Trees.{Leaf, points, Tree, tip, branch, leaves, hashOf, count}
 use Rattle.rings.specs.Lists.{Item, item, Unlisted, insert}
 use Rattle.rings.specs.Changes.{insertion, removal}
 use Rattle.rings.proofs.Counting.{count-nil}
@@ -23,12 +23,13 @@ use Rattle.rings.proofs.Gaps.{gap-tells}
 use Rattle.rings.proofs.Find.{spot}
 use Rattle.runs.specs.Run.{Items, World}
 use Rattle.runs.specs.Wishes.{IsListed}
-use Rattle.runs.specs.Ways.{itemOf, nextOf, hashIn, isOf, gapHolds, Way, has, found, wayTo, rise, Fork, forkOf, halves, leftOne, rightOne, Edit, risenTwo, exchanged}
+use Rattle.runs.specs.Ways.{itemOf, nextOf, hashIn, isOf, gapHolds, Way, has, found, wayTo, rise, Fork, forkOf, halves, leftOne, rightOne, Edit, risenTwo}
+use Rattle.runs.specs.Outcomes.{treeWith, treeSwapped}
 use Rattle.runs.specs.Honest.{sayU2, sayEI, turned, note, twoPlaces, turnRound, takeOver, without, placed, alone, insertLines, swapLines}
 use Rattle.runs.proofs.Widths.{Small}
 use Rattle.runs.proofs.Parts.{IsDigest}
 use Rattle.runs.proofs.Climbs.{record-digest, tree-digest, IsEdit, risen-two-is}
-use Rattle.runs.proofs.Places.{plug-two, rise-two, forked, exchanged-fork}
+use Rattle.runs.proofs.Places.{plug-two, rise-plug, rise-two, located, Forks, forked, regrown-one, regrown-two}
 use Rattle.runs.proofs.Rings.{ring-once}
 use Rattle.runs.proofs.Fed.{at, note-fits, Brings}
 use Rattle.runs.proofs.Reach.{is-open, two-places}
@@ -42,22 +43,39 @@ module _ (D : List ℕ → Dig) (DD : (l : List ℕ) → IsDigest (D l)) (w : Wo
 
   -- ── digests at the feet of a fork ──
 
-  -- old ones or new ones that are the hashes of two leaves rise to the hash of the tree with those leaves there
-  pub feet : (of : Edit → Dig) (f : Fork) (a b : Edit) (x y : Leaf) → of a ≡ hashOf D (tip x) → of b ≡ hashOf D (tip y)
+  -- old ones or new ones that are the hashes of two trees rise to the hash of the tree with those two there
+  pub feet : (of : Edit → Dig) (f : Fork) (a b : Edit) (X Y : Tree) → of a ≡ hashOf D X → of b ≡ hashOf D Y
       → rise D (f .above) (H D (rise D (f .left) (of (leftOne f a b))) (rise D (f .right) (of (rightOne f a b))))
-      ≡ hashOf D (plug-two f (tip (leftOne f x y)) (tip (rightOne f x y)))
-  feet of f a b x y h k =
+      ≡ hashOf D (plug-two f (leftOne f X Y) (rightOne f X Y))
+  feet of f a b X Y h k =
       ap₂ (λ (u v : Dig). rise D (f .above) (H D (rise D (f .left) u) (rise D (f .right) v)))
       (by-left (f .crossed)) (by-right (f .crossed))
       ∙ rise-two D f _ _
     where
-      by-left : (c : Bool) → of (pick c b a) ≡ hashOf D (tip (pick c y x))
+      by-left : (c : Bool) → of (pick c b a) ≡ hashOf D (pick c Y X)
       by-left true = k
       by-left false = h
 
-      by-right : (c : Bool) → of (pick c a b) ≡ hashOf D (tip (pick c x y))
+      by-right : (c : Bool) → of (pick c a b) ≡ hashOf D (pick c X Y)
       by-right true = h
       by-right false = k
+
+  -- two leaves at the feet
+  pub leaves-at : (f : Fork) (x y : Leaf) → Forks f x y T
+      → plug-two f (leftOne f (tip x) (tip y)) (rightOne f (tip x) (tip y)) ≡ T
+  leaves-at f x y e = ap₂ (λ (X Y : Tree). plug-two f X Y) (by-side (f .crossed)) (by-other (f .crossed)) ∙ e
+    where
+      by-side : (c : Bool) → pick c (tip y) (tip x) ≡ tip (pick c y x)
+      by-side true = refl
+      by-side false = refl
+
+      by-other : (c : Bool) → pick c (tip x) (tip y) ≡ tip (pick c x y)
+      by-other true = refl
+      by-other false = refl
+
+  -- every leaf of the tree occurs once
+  pub once : (v : Leaf) → count v (leaves T) ≤ 1
+  once v = omega (arith, g .holds v, ring-once (recordHash D) v (w .items) (g .ascending))
 
   -- ── swap ──
 
@@ -74,7 +92,7 @@ module _ (D : List ℕ → Dig) (DD : (l : List ℕ) → IsDigest (D l)) (w : Wo
   fits-by-side l r v false e = note-fits D (s .secret) _ []
 
   pub swap-brings : (A B : ℕ) → A ≢ B → IsListed A (w .items) → IsListed B (w .items)
-      → Brings D w (swapLines D s A B T) (rooted s (hashOf D (exchanged (found (isOf A) T) (found (isOf B) T) T))) (w .items)
+      → Brings D w (swapLines D s A B T) (rooted s (hashOf D (treeSwapped D A B T))) (w .items) (w .changed)
   swap-brings A B apart m n =
       let x = found (isOf A) T in
       let z = found (isOf B) T in
@@ -92,11 +110,11 @@ module _ (D : List ℕ → Dig) (DD : (l : List ℕ) → IsDigest (D l)) (w : Wo
       let h = feet-are D DD w (g .opened) f e (turned e) he (record { old = he .new; new = he .old }) in
       let y = risenTwo D f a b in
       let hy = risen-two-is D DD f a b (h .0) (h .1) in
-      let was-root : y .was ≡ s .root = feet (λ u. u .was) f e (turned e) x z refl refl ∙ ap (hashOf D) fork ∙ g .root in
-      let once : (v : Leaf) → count v (leaves T) ≤ 1 = λ v. omega
-      (arith, g .holds v, ring-once (recordHash D) v (w .items) (g .ascending)) in
-      let becomes-root : y .becomes ≡ hashOf D (exchanged x z T) =
-      feet (λ u. u .becomes) f e (turned e) z x refl refl ∙ ap (hashOf D) (sym (exchanged-fork x z f T fork (once x) (once z))) in
+      let was-root : y .was ≡ s .root =
+      feet (λ u. u .was) f e (turned e) (tip x) (tip z) refl refl ∙ ap (hashOf D) (leaves-at f x z fork) ∙ g .root in
+      let becomes-root : y .becomes ≡ hashOf D (treeSwapped D A B T) =
+      feet (λ u. u .becomes) f e (turned e) (tip z) (tip x) refl refl
+      ∙ ap (hashOf D) (sym (regrown-two x (tip z) z (tip x) other f T fork (once x) (once z))) in
       let t = sayU2 a b y in
       let q = Q.swap (a .was) (b .was) (y .was) (y .becomes) (note D s t) in
       let u = two-places D DD w (g .opened) (w .formed) (w .book) f a b (h .0) (h .1) in
@@ -105,8 +123,8 @@ module _ (D : List ℕ → Dig) (DD : (l : List ℕ) → IsDigest (D l)) (w : Wo
       (h .0 .old, (h .1 .old, (hy .old, (hy .new, (DD (enc (memo t (s .secret))), tt)))))
       (is-open D DD w (g .opened), (fits-by-side (f .left) (f .right) (f .above) (f .crossed) e, tt)) (u .got, tt) refl) in
       let r = adopt-last D DD w (g .opened) (twoPlaces D s f a b ++ (q ∷ [])) y [] hy was-root k in
-      subst (λ (t : Dig). Brings D w (swapLines D s A B T) (rooted s t) (w .items)) becomes-root
-      (subst (λ (qs : List Request). Brings D w qs (rooted s (y .becomes)) (w .items))
+      subst (λ (t : Dig). Brings D w (swapLines D s A B T) (rooted s t) (w .items) (w .changed)) becomes-root
+      (subst (λ (qs : List Request). Brings D w qs (rooted s (y .becomes)) (w .items) (w .changed))
       (append-assoc (twoPlaces D s f a b) (q ∷ []) (takeOver D s y ∷ [])) r)
 
   -- ── insert ──
@@ -117,7 +135,7 @@ module _ (D : List ℕ → Dig) (DD : (l : List ℕ) → IsDigest (D l)) (w : Wo
 
   -- into the empty list
   insert-first : (A : ℕ) → Small A → 0 < A → w .items ≡ []
-      → Brings D w (insertLines D s A T []) (rooted s (alone D s A .becomes)) (insert A clearedRecord (w .items))
+      → Brings D w (insertLines D s A T []) (rooted s (alone D s A .becomes)) (insert A clearedRecord (w .items)) (w .changed)
   insert-first A small positive e =
       let root : nought ≡ s .root = sym (none-hash D T (λ x. g .holds x ∙ rw e (count-nil x))) ∙ g .root in
       adopt-last D DD w (g .opened) (Q.first A ∷ []) (alone D s A) (insertion A ∷ []) (alone-is D DD w (g .opened) A) root
@@ -125,7 +143,9 @@ module _ (D : List ℕ → Dig) (DD : (l : List ℕ) → IsDigest (D l)) (w : Wo
 
   -- beside the leaf whose gap holds A
   insert-beside : (A : ℕ) → Small A → 0 < A → has (gapHolds A) T ≡ true → (i : Item Record) (l : Items)
-      → (y : Dig) × Brings D w (insertLines D s A T (i ∷ l)) (rooted s y) (insert A clearedRecord (w .items))
+      → Brings D w (insertLines D s A T (i ∷ l)) (rooted s (hashOf D (treeWith D A T (i ∷ l))))
+      (insert A clearedRecord (w .items))
+      (w .changed)
   insert-beside A small positive have i l =
       let t = spotted D DD w T g (gapHolds A) have in
       let x = found (gapHolds A) T in
@@ -143,20 +163,30 @@ module _ (D : List ℕ → Dig) (DD : (l : List ℕ) → IsDigest (D l)) (w : Wo
       (t .next-positive) (t .passes) in
       let k = turn-last D DD w (g .opened) (placed D s f B A B′ ω) y (removal A ∷ []) hy h in
       let r = adopt-last D DD w (g .opened) (placed D s f B A B′ ω ++ (turnRound D s y ∷ [])) (turned y) (insertion A ∷ [])
-      (record { old = hy .new; new = hy .old }) root k in (
-        y .was,
-        subst (λ (qs : List Request). Brings D w qs (rooted s (y .was)) (insert A clearedRecord (w .items)))
-            (append-assoc (placed D s f B A B′ ω) (turnRound D s y ∷ []) (takeOver D s (turned y) ∷ [])) r,
-      )
+      (record { old = hy .new; new = hy .old }) root k in
+      let X = branch (tip (points B A ω)) (tip (points A B′ nought)) in
+      let grown : y .was ≡ hashOf D (treeWith D A T (i ∷ l)) =
+      rise-plug D p X ∙ ap (hashOf D) (sym (regrown-one x X p T (located (gapHolds A) T have) (once x))) in
+      subst (λ (z : Dig). Brings D w (insertLines D s A T (i ∷ l)) (rooted s z) (insert A clearedRecord (w .items))
+      (w .changed)) grown
+      (subst (λ (qs : List Request). Brings D w qs (rooted s (y .was)) (insert A clearedRecord (w .items)) (w .changed))
+      (append-assoc (placed D s f B A B′ ω) (turnRound D s y ∷ []) (takeOver D s (turned y) ∷ [])) r)
+
+  -- the leaf whose gap holds an unlisted number
+  pub gap-found : (A a : ℕ) (r : Record) (l : Items) → 0 < A → Unlisted A (w .items) → w .items ≡ item a r ∷ l
+      → has (gapHolds A) T ≡ true
+  gap-found A a r l positive free e =
+      let i = spot (recordHash D) A a r l positive (rw e at (g .ascending)) (rw e at free) in
+      spot-by D DD w T g (gapHolds A) (points (i .a) (i .b) (i .w)) (gap-tells (i .gap)) (rw e (i .on))
 
   pub insert-brings : (A : ℕ) → Small A → 0 < A → Unlisted A (w .items)
-      → (y : Dig) × Brings D w (insertLines D s A T (w .items)) (rooted s y) (insert A clearedRecord (w .items))
+      → Brings D w (insertLines D s A T (w .items)) (rooted s (hashOf D (treeWith D A T (w .items))))
+      (insert A clearedRecord (w .items))
+      (w .changed)
   insert-brings A small positive free = by-items (w .items) refl
     where
-      by-items : (l : Items) → w .items ≡ l → (y : Dig) × Brings D w (insertLines D s A T l) (rooted s y)
-          (insert A clearedRecord (w .items))
-      by-items [] e = (alone D s A .becomes, insert-first A small positive e)
-      by-items (item a r ∷ l) e =
-          let i = spot (recordHash D) A a r l positive (rw e at (g .ascending)) (rw e at free) in
-          insert-beside A small positive
-          (spot-by D DD w T g (gapHolds A) (points (i .a) (i .b) (i .w)) (gap-tells (i .gap)) (rw e (i .on))) (item a r) l
+      by-items : (l : Items) → w .items ≡ l
+          → Brings D w (insertLines D s A T l) (rooted s (hashOf D (treeWith D A T l))) (insert A clearedRecord (w .items))
+          (w .changed)
+      by-items [] e = insert-first A small positive e
+      by-items (item a r ∷ l) e = insert-beside A small positive (gap-found A a r l positive free e) (item a r) l

@@ -1,6 +1,6 @@
 -- Leaves and their places: a leaf that occurs is found by a test, the tree is that leaf under its way, or two leaves under
--- their fork, and exchanging the two changes nothing else.
-use mathlib.Core.Path.{_≡_, refl, sym, ap, ap₂, _∙_}
+-- their fork, and replacing one or both changes nothing else.
+use mathlib.Core.Path.{_≡_, refl, sym, ap, ap₂, subst, _∙_}
 use mathlib.Core.Bool.{Bool, true, false, true≢false}
 use mathlib.Core.List.{List, [], _∷_, _++_}
 use mathlib.Core.Logic.{_⊎_, inl, inr, _≢_}
@@ -11,7 +11,7 @@ use Rattle.seqs.specs.Choose.{pick, either}
 use Rattle.paper.specs.Strings.{Dig, H}
 use Rattle.rings.specs.Trees.{Leaf, Leaf-discrete, Tree, empty, tip, branch, leaves, hashOf, count}
 use Rattle.rings.proofs.Counting.{count-nil, count-append, count-single, count-head}
-use Rattle.runs.specs.Ways.{Level, onLeft, onRight, Way, has, found, wayTo, rise, Fork, under, forkOf, leftOne, rightOne, ifYes, theOther, exchanged}
+use Rattle.runs.specs.Ways.{Level, onLeft, onRight, Way, has, found, wayTo, rise, Fork, under, forkOf, leftOne, rightOne, regrown, ifYes, replacing, replacingTwo}
 
 -- ── a tree under a way ──
 
@@ -131,96 +131,146 @@ module _ (p q : Leaf → Bool) where
       by-sides false false e e′ h k n f g =
           plug-last (forkOf p q r .above) (onLeft l) _ ∙ ap (λ (t : Tree). branch l t) (g h k n)
 
--- ── exchanging two leaves ──
+-- ── how often a leaf occurs ──
 
-module _ (x y : Leaf) where
-  -- a tree without them stays as it is
-  other-stays : (z : Leaf) → count x (z ∷ []) ≡ 0 → count y (z ∷ []) ≡ 0 → theOther x y z ≡ z
-  other-stays z h k = by-test (Leaf-discrete z x) (Leaf-discrete z y)
+-- beside a way
+abbrev pub around : Leaf → Way → ℕ
+around z [] = 0
+around z (onLeft S ∷ p) = count z (leaves S) + around z p
+around z (onRight S ∷ p) = count z (leaves S) + around z p
+
+pub count-plug : (z : Leaf) (p : Way) (X : Tree) → count z (leaves (plug p X)) ≡ count z (leaves X) + around z p
+count-plug z [] X = omega arith
+count-plug z (onLeft S ∷ p) X = omega (arith, count-plug z p (branch S X), count-append z (leaves S) (leaves X))
+count-plug z (onRight S ∷ p) X = omega (arith, count-plug z p (branch X S), count-append z (leaves X) (leaves S))
+
+-- beside a fork
+abbrev pub aroundTwo : Leaf → Fork → ℕ
+aroundTwo z f = around z (f .left) + around z (f .right) + around z (f .above)
+
+pub count-two : (z : Leaf) (f : Fork) (X Y : Tree)
+    → count z (leaves (plug-two f X Y)) ≡ count z (leaves X) + count z (leaves Y) + aroundTwo z f
+count-two z f X Y =
+    omega (
+      arith,
+      count-plug z (f .above) (branch (plug (f .left) X) (plug (f .right) Y)),
+      count-append z (leaves (plug (f .left) X)) (leaves (plug (f .right) Y)),
+      count-plug z (f .left) X,
+      count-plug z (f .right) Y,
+    )
+
+-- ── leaves replaced ──
+
+module _ (g : Leaf → Tree) where
+  -- a tree stays where no leaf of it is replaced
+  stays : (T : Tree) → ((v : Leaf) → 0 < count v (leaves T) → g v ≡ tip v) → regrown g T ≡ T
+  stays empty k = refl
+  stays (tip z) k = k z (count-head z z [] refl)
+  stays (branch l r) k =
+      ap₂ (λ (t u : Tree). branch t u) (stays l (λ v h. k v (omega (arith, h, count-append v (leaves l) (leaves r)))))
+      (stays r (λ v h. k v (omega (arith, h, count-append v (leaves l) (leaves r)))))
+
+  regrown-plug : (p : Way) (X : Tree) → ((v : Leaf) → 0 < around v p → g v ≡ tip v) → regrown g (plug p X) ≡ plug p (regrown g X)
+  regrown-plug [] X k = refl
+  regrown-plug (onLeft S ∷ p) X k =
+      regrown-plug p (branch S X) (λ v h. k v (omega (arith, h)))
+      ∙ ap (λ (t : Tree). plug p (branch t (regrown g X))) (stays S (λ v h. k v (omega (arith, h))))
+  regrown-plug (onRight S ∷ p) X k =
+      regrown-plug p (branch X S) (λ v h. k v (omega (arith, h)))
+      ∙ ap (λ (t : Tree). plug p (branch (regrown g X) t)) (stays S (λ v h. k v (omega (arith, h))))
+
+  regrown-fork : (f : Fork) (a b : Leaf) → ((v : Leaf) → 0 < aroundTwo v f → g v ≡ tip v)
+      → regrown g (plug-two f (tip a) (tip b)) ≡ plug-two f (g a) (g b)
+  regrown-fork f a b k =
+      regrown-plug (f .above) (branch (plug (f .left) (tip a)) (plug (f .right) (tip b))) (λ v h. k v (omega (arith, h)))
+      ∙ ap₂ (λ (t u : Tree). plug (f .above) (branch t u)) (regrown-plug (f .left) (tip a) (λ v h. k v (omega (arith, h))))
+      (regrown-plug (f .right) (tip b) (λ v h. k v (omega (arith, h))))
+
+-- one leaf that occurs once
+module _ (x : Leaf) (X : Tree) where
+  replaced : replacing x X x ≡ X
+  replaced = by-test (Leaf-discrete x x)
     where
-      by-test : (d : Dec (z ≡ x)) (c : Dec (z ≡ y)) → ifYes d y (ifYes c x z) ≡ z
-      by-test (yes e) c = absurd (omega (arith, count-head x z [] (sym e)))
-      by-test (no n) (yes e) = absurd (omega (arith, count-head y z [] (sym e)))
-      by-test (no n) (no m) = refl
-
-  stays : (T : Tree) → count x (leaves T) ≡ 0 → count y (leaves T) ≡ 0 → exchanged x y T ≡ T
-  stays empty h k = refl
-  stays (tip z) h k = ap (λ (u : Leaf). tip u) (other-stays z h k)
-  stays (branch l r) h k =
-      let c = count-append x (leaves l) (leaves r) in
-      let d = count-append y (leaves l) (leaves r) in
-      ap₂ (λ (t u : Tree). branch t u) (stays l (omega arith) (omega arith)) (stays r (omega arith) (omega arith))
-
-  -- how often a leaf occurs beside a way
-  abbrev around : Leaf → Way → ℕ
-  around z [] = 0
-  around z (onLeft S ∷ p) = count z (leaves S) + around z p
-  around z (onRight S ∷ p) = count z (leaves S) + around z p
-
-  count-plug : (z : Leaf) (p : Way) (X : Tree) → count z (leaves (plug p X)) ≡ count z (leaves X) + around z p
-  count-plug z [] X = omega arith
-  count-plug z (onLeft S ∷ p) X = omega (arith, count-plug z p (branch S X), count-append z (leaves S) (leaves X))
-  count-plug z (onRight S ∷ p) X = omega (arith, count-plug z p (branch X S), count-append z (leaves X) (leaves S))
-
-  exchanged-plug : (p : Way) (X : Tree) → around x p ≡ 0 → around y p ≡ 0 → exchanged x y (plug p X) ≡ plug p (exchanged x y X)
-  exchanged-plug [] X h k = refl
-  exchanged-plug (onLeft S ∷ p) X h k =
-      exchanged-plug p (branch S X) (omega arith) (omega arith)
-      ∙ ap (λ (t : Tree). plug p (branch t (exchanged x y X))) (stays S (omega arith) (omega arith))
-  exchanged-plug (onRight S ∷ p) X h k =
-      exchanged-plug p (branch X S) (omega arith) (omega arith)
-      ∙ ap (λ (t : Tree). plug p (branch (exchanged x y X) t)) (stays S (omega arith) (omega arith))
-
-  -- at the feet of a fork, where each occurs once in the tree
-  count-two : (f : Fork) (a b z : Leaf) → count z (leaves (plug-two f (tip a) (tip b)))
-      ≡ count z (a ∷ []) + around z (f .left) + (count z (b ∷ []) + around z (f .right)) + around z (f .above)
-  count-two f a b z =
-      omega (
-        arith,
-        count-plug z (f .above) (branch (plug (f .left) (tip a)) (plug (f .right) (tip b))),
-        count-append z (leaves (plug (f .left) (tip a))) (leaves (plug (f .right) (tip b))),
-        count-plug z (f .left) (tip a),
-        count-plug z (f .right) (tip b),
-      )
-
-  exchanged-two : (f : Fork) (a b : Leaf) → (0 < count x (a ∷ []) + count x (b ∷ [])) → (0 < count y (a ∷ []) + count y (b ∷ []))
-      → count x (leaves (plug-two f (tip a) (tip b))) ≤ 1 → count y (leaves (plug-two f (tip a) (tip b))) ≤ 1
-      → exchanged x y (plug-two f (tip a) (tip b)) ≡ plug-two f (tip (theOther x y a)) (tip (theOther x y b))
-  exchanged-two f a b hx hy ox oy =
-      let cx = count-two f a b x in
-      let cy = count-two f a b y in
-      exchanged-plug (f .above) (branch (plug (f .left) (tip a)) (plug (f .right) (tip b))) (omega arith) (omega arith)
-      ∙ ap₂ (λ (t u : Tree). plug (f .above) (branch t u)) (exchanged-plug (f .left) (tip a) (omega arith) (omega arith))
-      (exchanged-plug (f .right) (tip b) (omega arith) (omega arith))
-
-  to-other : theOther x y x ≡ y
-  to-other = by-test (Leaf-discrete x x)
-    where
-      by-test : (d : Dec (x ≡ x)) → ifYes d y (ifYes (Leaf-discrete x y) x x) ≡ y
+      by-test : (d : Dec (x ≡ x)) → ifYes d X (tip x) ≡ X
       by-test (yes e) = refl
       by-test (no n) = absurd (n refl)
 
-  from-other : theOther x y y ≡ x
-  from-other = by-test (Leaf-discrete y x) (Leaf-discrete y y)
+  kept : (v : Leaf) → v ≢ x → replacing x X v ≡ tip v
+  kept v n = by-test (Leaf-discrete v x)
     where
-      by-test : (d : Dec (y ≡ x)) (c : Dec (y ≡ y)) → ifYes d y (ifYes c x y) ≡ x
-      by-test (yes e) c = e
+      by-test : (d : Dec (v ≡ x)) → ifYes d X (tip v) ≡ tip v
+      by-test (yes e) = absurd (n e)
+      by-test (no m) = refl
+
+  pub regrown-one : (p : Way) (T : Tree) → plug p (tip x) ≡ T → count x (leaves T) ≤ 1 → regrown (replacing x X) T ≡ plug p X
+  regrown-one p T e once =
+      ap (regrown (replacing x X)) (sym e) ∙ regrown-plug (replacing x X) p (tip x)
+      (λ v h. kept v (λ q. twice (subst (λ (u : Leaf). 0 < around u p) q h)))
+      ∙ ap (plug p) replaced
+    where
+      twice : 0 < around x p → ⊥
+      twice h =
+          let c : count x (leaves (plug p (tip x))) ≤ 1 = rw e once in
+          omega (arith, h, count-plug x p (tip x), count-head x x [] refl)
+
+-- two leaves that occur once each
+module _ (x : Leaf) (X : Tree) (y : Leaf) (Y : Tree) (apart : x ≢ y) where
+  first-replaced : replacingTwo x X y Y x ≡ X
+  first-replaced = by-test (Leaf-discrete x x)
+    where
+      by-test : (d : Dec (x ≡ x)) → ifYes d X (ifYes (Leaf-discrete x y) Y (tip x)) ≡ X
+      by-test (yes e) = refl
+      by-test (no n) = absurd (n refl)
+
+  second-replaced : replacingTwo x X y Y y ≡ Y
+  second-replaced = by-test (Leaf-discrete y x) (Leaf-discrete y y)
+    where
+      by-test : (d : Dec (y ≡ x)) (c : Dec (y ≡ y)) → ifYes d X (ifYes c Y (tip y)) ≡ Y
+      by-test (yes e) c = absurd (apart (sym e))
       by-test (no n) (yes e) = refl
       by-test (no n) (no m) = absurd (m refl)
 
-  pub exchanged-fork : (f : Fork) (T : Tree) → Forks f x y T → count x (leaves T) ≤ 1 → count y (leaves T) ≤ 1
-      → exchanged x y T ≡ plug-two f (tip (leftOne f y x)) (tip (rightOne f y x))
-  exchanged-fork f T e ox oy = by-side (f .crossed) e
+  both-kept : (v : Leaf) → v ≢ x → v ≢ y → replacingTwo x X y Y v ≡ tip v
+  both-kept v n m = by-test (Leaf-discrete v x) (Leaf-discrete v y)
     where
+      by-test : (d : Dec (v ≡ x)) (c : Dec (v ≡ y)) → ifYes d X (ifYes c Y (tip v)) ≡ tip v
+      by-test (yes e) c = absurd (n e)
+      by-test (no k) (yes e) = absurd (m e)
+      by-test (no k) (no j) = refl
+
+  pub regrown-two : (f : Fork) (T : Tree) → Forks f x y T → count x (leaves T) ≤ 1 → count y (leaves T) ≤ 1
+      → regrown (replacingTwo x X y Y) T ≡ plug-two f (leftOne f X Y) (rightOne f X Y)
+  regrown-two f T e ox oy = by-side (f .crossed) e
+    where
+      -- neither stands beside the fork
+      beside-not : (v a b : Leaf) → plug-two f (tip a) (tip b) ≡ T → count v (leaves T) ≤ 1
+          → 0 < count v (a ∷ []) + count v (b ∷ [])
+          → 0 < aroundTwo v f → ⊥
+      beside-not v a b q once there h =
+          let c : count v (leaves (plug-two f (tip a) (tip b))) ≤ 1 = rw q once in
+          omega (arith, h, there, count-two v f (tip a) (tip b))
+
+      at-feet : (a b : Leaf) → plug-two f (tip a) (tip b) ≡ T → 0 < count x (a ∷ []) + count x (b ∷ [])
+          → 0 < count y (a ∷ []) + count y (b ∷ []) → regrown (replacingTwo x X y Y) T
+          ≡ plug-two f (replacingTwo x X y Y a) (replacingTwo x X y Y b)
+      at-feet a b q hx hy =
+          ap (regrown (replacingTwo x X y Y)) (sym q)
+          ∙ regrown-fork (replacingTwo x X y Y) f a b
+          (λ v h.
+          both-kept v (λ r. beside-not x a b q ox hx (subst (λ (u : Leaf). 0 < aroundTwo u f) r h))
+          (λ r. beside-not y a b q oy hy (subst (λ (u : Leaf). 0 < aroundTwo u f) r h)))
+
+      here-x : 0 < count x (x ∷ [])
+      here-x = count-head x x [] refl
+
+      here-y : 0 < count y (y ∷ [])
+      here-y = count-head y y [] refl
+
       by-side : (c : Bool) → plug-two f (tip (pick c y x)) (tip (pick c x y)) ≡ T
-          → exchanged x y T ≡ plug-two f (tip (pick c x y)) (tip (pick c y x))
-      by-side true e =
-          ap (exchanged x y) (sym e)
-          ∙ exchanged-two f y x (omega (arith, count-head x x [] refl)) (omega (arith, count-head y y [] refl)) (rw e ox)
-          (rw e oy)
-          ∙ ap₂ (λ (a b : Leaf). plug-two f (tip a) (tip b)) from-other to-other
-      by-side false e =
-          ap (exchanged x y) (sym e)
-          ∙ exchanged-two f x y (omega (arith, count-head x x [] refl)) (omega (arith, count-head y y [] refl)) (rw e ox)
-          (rw e oy)
-          ∙ ap₂ (λ (a b : Leaf). plug-two f (tip a) (tip b)) to-other from-other
+          → regrown (replacingTwo x X y Y) T ≡ plug-two f (pick c Y X) (pick c X Y)
+      by-side true q =
+          at-feet y x q (omega (arith, here-x)) (omega (arith, here-y))
+          ∙ ap₂ (λ (t u : Tree). plug-two f t u) second-replaced first-replaced
+      by-side false q =
+          at-feet x y q (omega (arith, here-x)) (omega (arith, here-y))
+          ∙ ap₂ (λ (t u : Tree). plug-two f t u) first-replaced second-replaced

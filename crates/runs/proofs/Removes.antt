@@ -24,17 +24,18 @@ use Rattle.rings.proofs.Gaps.{gap-tells, gap-apart}
 use Rattle.rings.proofs.Find.{Near, near}
 use Rattle.rings.proofs.Bridge.{zero-is-nought}
 use Rattle.runs.specs.Run.{Items, World}
-use Rattle.runs.specs.Ways.{itemOf, nextOf, hashIn, isOf, leadsTo, found, forkOf}
+use Rattle.runs.specs.Ways.{itemOf, nextOf, hashIn, isOf, leadsTo, has, found, forkOf}
+use Rattle.runs.specs.Outcomes.{treeWithout}
 use Rattle.runs.specs.Honest.{turned, turnRound, relinked, gone, without, placed, alone, removeLines}
 use Rattle.runs.proofs.Parts.{IsDigest}
 use Rattle.runs.proofs.Climbs.{record-digest, tree-digest}
-use Rattle.runs.proofs.Places.{forked}
+use Rattle.runs.proofs.Places.{Forks, forked, regrown-two}
 use Rattle.runs.proofs.Rings.{one-of-item, one-to-item}
 use Rattle.runs.proofs.Fed.{Brings}
 use Rattle.runs.proofs.Adopts.{turn-last, adopt-last, alone-is, first-line, without-is, place-lines}
 use Rattle.runs.proofs.Asks.{none-hash}
 use Rattle.runs.proofs.Standing.{Ground, leaf-digest, spot-by, spotted}
-use Rattle.runs.proofs.Moves.{feet}
+use Rattle.runs.proofs.Moves.{feet, leaves-at, once}
 
 -- ── a tree of one leaf ──
 
@@ -81,7 +82,7 @@ module _ (D : List ℕ → Dig) where
           let z = none-in l (omega arith) (λ x. omega (arith, sum x)) in
           behind-nought (hashOf D l) (hashOf D r) (none-hash D l z) (wide r) ∙ v (λ x. omega (arith, sum x, z x))
 
-  no-record-hash : recordHash D clearedRecord ≡ nought
+  pub no-record-hash : recordHash D clearedRecord ≡ nought
   unfolding recordHash
   no-record-hash = refl
 
@@ -92,7 +93,7 @@ module _ (D : List ℕ → Dig) (DD : (l : List ℕ) → IsDigest (D l)) (w : Wo
   -- ── the only item ──
 
   remove-only : (A a : ℕ) (r : Record) → Listed A clearedRecord (w .items) → w .items ≡ item a r ∷ []
-      → Brings D w (removeLines D s A T (item a r ∷ [])) (rooted s nought) (remove A (w .items))
+      → Brings D w (removeLines D s A T (item a r ∷ [])) (rooted s nought) (remove A (w .items)) (w .changed)
   remove-only A a r m e =
       let d = g .decent A clearedRecord m in
       let y = points A A nought in
@@ -119,11 +120,18 @@ module _ (D : List ℕ → Dig) (DD : (l : List ℕ) → IsDigest (D l)) (w : Wo
 
   -- ── one of several ──
 
-  remove-between : (A : ℕ) → Listed A clearedRecord (w .items)
-      → Near A (recordHash D clearedRecord) (ring (recordHash D) (w .items))
-      → (i j : Item Record) (l : Items)
-      → (y : Dig) × Brings D w (removeLines D s A T (i ∷ j ∷ l)) (rooted s y) (remove A (w .items))
-  remove-between A m n i j l =
+  -- the leaf x that leads to A, and A's own leaf z
+  pub record Linked (A : ℕ) : Type 0 where
+    pub before : has (leadsTo A) T ≡ true
+    pub own : has (isOf A) T ≡ true
+    pub before-next : A ≡ nextOf (found (leadsTo A) T)
+    pub own-item : A ≡ itemOf (found (isOf A) T)
+    pub own-empty : nought ≡ hashIn (found (isOf A) T)
+    pub apart : itemOf (found (leadsTo A) T) ≢ A
+    pub gap : inGap A (itemOf (found (leadsTo A) T)) (nextOf (found (isOf A) T)) ≡ true
+
+  pub linked : (A : ℕ) → Near A (recordHash D clearedRecord) (ring (recordHash D) (w .items)) → Linked A
+  linked A n =
       let hx = spot-by D DD w T g (leadsTo A) (points (n .a) A (n .w)) (eq-eqb A A refl) (n .on) in
       let hz = spot-by D DD w T g (isOf A) (points A (n .b) (recordHash D clearedRecord)) (eq-eqb A A refl) (n .next) in
       let tx = spotted D DD w T g (leadsTo A) hx in
@@ -136,37 +144,70 @@ module _ (D : List ℕ → Dig) (DD : (l : List ℕ) → IsDigest (D l)) (w : Wo
       one-to-item (recordHash D) x _ (w .items) (g .ascending) (sym x-next) (tx .in-ring) (n .on) in
       let z-is : z ≡ points A (n .b) (recordHash D clearedRecord) =
       one-of-item (recordHash D) z _ (w .items) (g .ascending) (sym z-item) (tz .in-ring) (n .next) in
-      let other : x ≢ z = λ e. gap-apart (n .gap) (sym (ap itemOf x-is) ∙ ap itemOf e ∙ sym z-item) in
+      record {
+        before = hx;
+        own = hz;
+        before-next = x-next;
+        own-item = z-item;
+        own-empty = sym (ap hashIn z-is ∙ no-record-hash D);
+        apart = λ e. gap-apart (n .gap) (sym (ap itemOf x-is) ∙ e);
+        gap = (λ k. inGap A (itemOf (x-is k)) (nextOf (z-is k))) ∙ gap-tells (n .gap);
+      }
+
+  -- where another item is listed too
+  pub linked-in : (A a b : ℕ) (r t : Record) (l : Items) → Listed A clearedRecord (w .items) → w .items ≡ item a r ∷ item b t ∷ l
+      → Linked A
+  linked-in A a b r t l m e =
+      let n = near (recordHash D) A clearedRecord a r b t l (rw e at (g .ascending)) (rw e at m) in
+      linked A (rw e n)
+
+  -- two leaves, under one fork
+  pub other-leaf : (A : ℕ) → Linked A → found (leadsTo A) T ≢ found (isOf A) T
+  other-leaf A k e = k .apart (ap itemOf e ∙ sym (k .own-item))
+
+  pub fork-of : (A : ℕ) (k : Linked A) → Forks (forkOf (leadsTo A) (isOf A) T) (found (leadsTo A) T) (found (isOf A) T) T
+  fork-of A k = forked (leadsTo A) (isOf A) T (k .before) (k .own) (other-leaf A k)
+
+  remove-between : (A : ℕ) → Listed A clearedRecord (w .items) → Linked A → (i j : Item Record) (l : Items)
+      → Brings D w (removeLines D s A T (i ∷ j ∷ l)) (rooted s (hashOf D (treeWithout D A T (i ∷ j ∷ l)))) (remove A (w .items))
+      (w .changed)
+  remove-between A m k i j l =
+      let x = found (leadsTo A) T in
+      let z = found (isOf A) T in
+      let tx = spotted D DD w T g (leadsTo A) (k .before) in
+      let tz = spotted D DD w T g (isOf A) (k .own) in
       let B = itemOf x in
       let B′ = nextOf z in
       let ω = hashIn x in
       let dB = g .decent B (tx .held) (tx .listed) in
       let dA = g .decent A clearedRecord m in
       let hω = subst IsDigest (tx .hash-is) (record-digest D DD (tx .held)) in
-      let gap : inGap A B B′ ≡ true = (λ k. inGap A (itemOf (x-is k)) (nextOf (z-is k))) ∙ gap-tells (n .gap) in
       let f = forkOf (leadsTo A) (isOf A) T in
       let y = without D s f B A B′ ω in
-      let x-was : digest D (leaf B A ω) ≡ hashOf D (tip x) = ap (λ (k : ℕ). digest D (leaf B k ω)) x-next ∙ leaf-digest D x in
-      let empty-z : nought ≡ hashIn z = sym (ap hashIn z-is ∙ no-record-hash D) in
+      let x-was : digest D (leaf B A ω) ≡ hashOf D (tip x) =
+      ap (λ (n : ℕ). digest D (leaf B n ω)) (k .before-next) ∙ leaf-digest D x in
       let z-was : digest D (leaf A B′ nought) ≡ hashOf D (tip z) =
-      ap₂ (λ (k : ℕ) (v : Dig). digest D (leaf k B′ v)) z-item empty-z ∙ leaf-digest D z in
+      ap₂ (λ (n : ℕ) (v : Dig). digest D (leaf n B′ v)) (k .own-item) (k .own-empty) ∙ leaf-digest D z in
       let root : y .was ≡ s .root =
-      feet D DD w T g (λ u. u .was) f (relinked D s B A B′ ω) (gone D s A B′) x z x-was z-was
-      ∙ ap (hashOf D) (forked (leadsTo A) (isOf A) T hx hz other) ∙ g .root in
+      feet D DD w T g (λ u. u .was) f (relinked D s B A B′ ω) (gone D s A B′) (tip x) (tip z) x-was z-was
+      ∙ ap (hashOf D) (leaves-at D DD w T g f x z (fork-of A k)) ∙ g .root in
+      let X = tip (points B B′ ω) in
+      let shrunk : y .becomes ≡ hashOf D (treeWithout D A T (i ∷ j ∷ l)) =
+      feet D DD w T g (λ u. u .becomes) f (relinked D s B A B′ ω) (gone D s A B′) X empty refl refl
+      ∙ ap (hashOf D)
+      (sym (regrown-two x X z empty (other-leaf A k) f T (fork-of A k) (once D DD w T g x) (once D DD w T g z))) in
       let h = place-lines D DD w (g .opened) f B A B′ ω (dB .small) (dA .small) (tz .next-small) hω (dB .positive) (dA .positive)
-      (tz .next-positive) gap in (
-        y .becomes,
-        adopt-last D DD w (g .opened) (placed D s f B A B′ ω) y (removal A ∷ [])
-            (without-is D DD w (g .opened) f B A B′ ω) root h,
-      )
+      (tz .next-positive) (k .gap) in
+      subst (λ (v : Dig). Brings D w (removeLines D s A T (i ∷ j ∷ l)) (rooted s v) (remove A (w .items)) (w .changed)) shrunk
+      (adopt-last D DD w (g .opened) (placed D s f B A B′ ω) y (removal A ∷ []) (without-is D DD w (g .opened) f B A B′ ω) root h)
 
   pub remove-brings : (A : ℕ) → Listed A clearedRecord (w .items)
-      → (y : Dig) × Brings D w (removeLines D s A T (w .items)) (rooted s y) (remove A (w .items))
+      → Brings D w (removeLines D s A T (w .items)) (rooted s (hashOf D (treeWithout D A T (w .items)))) (remove A (w .items))
+      (w .changed)
   remove-brings A m = by-items (w .items) refl
     where
-      by-items : (l : Items) → w .items ≡ l → (y : Dig) × Brings D w (removeLines D s A T l) (rooted s y) (remove A (w .items))
+      by-items : (l : Items) → w .items ≡ l
+          → Brings D w (removeLines D s A T l) (rooted s (hashOf D (treeWithout D A T l))) (remove A (w .items)) (w .changed)
       by-items [] e = elim (rw e at m) [ ]
-      by-items (item a r ∷ []) e = (nought, remove-only A a r m e)
-      by-items (item a r ∷ item b t ∷ l) e =
-          let n = near (recordHash D) A clearedRecord a r b t l (rw e at (g .ascending)) (rw e at m) in
-          remove-between A m (rw e n) (item a r) (item b t) l
+      by-items (item a r ∷ []) e = remove-only A a r m e
+      by-items (item a r ∷ item b t ∷ l) e = remove-between A m (linked-in A a b r t l m e) (item a r) (item b t) l

@@ -2,7 +2,7 @@
 use mathlib.Core.Path.{_≡_, ap, _∙_}
 use mathlib.Core.Bool.{false}
 use mathlib.Core.List.{List, []}
-use Prim.Native.Nat.{ℕ, _<_}
+use Prim.Native.Nat.{ℕ, _+_, _<_}
 use native.Mathlib.Omega.{arith}
 use borrow.Author.Tests.{ne-eqb, eqb-true}
 use lib.Dec.{eqb}
@@ -68,7 +68,7 @@ module _ (D : List ℕ → Dig) (DD : (l : List ℕ) → IsDigest (D l)) (w : Wo
 
   pub set-brings : (A v2 v3 v4 : ℕ) (r : Record) → Listed A r (w .items) → Small v2 → Small v3 → Small v4 → s .counter .0 < top
       → Brings D w (setLines D s A v2 v3 v4 T (w .items)) (raised s (rewrittenRoot A (nextRecord s v2 v3 v4)))
-      (putRecord A (nextRecord s v2 v3 v4) (w .items))
+      (putRecord A (nextRecord s v2 v3 v4) (w .items)) (w .changed + 1)
   set-brings A v2 v3 v4 r m s2 s3 s4 below =
       let new = nextRecord s v2 v3 v4 in
       let u = rewrites A r new m in
@@ -102,11 +102,12 @@ module _ (D : List ℕ → Dig) (DD : (l : List ℕ) → IsDigest (D l)) (w : Wo
         fair = fair-one D v q ok n (h .got, tt) [] tt;
         registers-are = ap (λ (x : World). x .registers) end;
         items-are = ap (λ (x : World). x .items) end;
+        changed-are = ap (λ (x : World). x .changed) end;
       })
 
   pub clear-brings : (A : ℕ) (r : Record) → Listed A r (w .items) → blank r ≡ false → s .counter .0 < top
       → Brings D w (clearLines D s A T (w .items)) (raised s (rewrittenRoot A clearedRecord))
-      (putRecord A clearedRecord (w .items))
+      (putRecord A clearedRecord (w .items)) (w .changed + 1)
   clear-brings A r m recorded below =
       let u = rewrites A r clearedRecord m in
       let p = wayTo (isOf A) T in
@@ -135,4 +136,5 @@ module _ (D : List ℕ → Dig) (DD : (l : List ℕ) → IsDigest (D l)) (w : Wo
         fair = fair-one D v q ok n (h .got, tt) [] tt;
         registers-are = ap (λ (x : World). x .registers) end;
         items-are = ap (λ (x : World). x .items) end;
+        changed-are = ap (λ (x : World). x .changed) end;
       })

@@ -28,6 +28,7 @@ module _ (D : List ℕ → Dig) where
     pub root : hashOf D T ≡ w .registers .root
     pub ascending : Ascending 0 (w .items)
     pub holds : Permuted (leaves T) (ring (recordHash D) (w .items))
+    pub counter : w .registers .counter .0 ≡ w .changed
     pub decent : AllDecent (w .items)
 
   pub leaf-digest : (x : Leaf) → digest D (leaf (itemOf x) (nextOf x) (hashIn x)) ≡ hashOf D (tip x)

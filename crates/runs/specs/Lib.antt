@@ -5,5 +5,6 @@ pub mod Frames
 pub mod Wishes
 pub mod Ways
 pub mod Honest
+pub mod Outcomes
 pub mod Liveness
 pub mod Also

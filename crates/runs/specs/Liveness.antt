@@ -12,16 +12,15 @@ use Rattle.hex.specs.Hex.{bytesOf}
 use Rattle.paper.specs.declared.Finding.{Finding}
 use Rattle.paper.specs.Strings.{Dig}
 use Rattle.paper.specs.Requests.{requestOf}
-use Rattle.paper.specs.Refusals.{top, nextRecord, clearedRecord}
-use Rattle.paper.specs.Answers.{findingBytes, rooted, raised}
+use Rattle.paper.specs.Refusals.{top}
+use Rattle.paper.specs.Answers.{findingBytes}
 use Rattle.rings.specs.Trees.{Tree, hashOf}
-use Rattle.rings.specs.Lists.{insert, remove, putRecord}
 use Rattle.runs.specs.Run.{Turn, Items, last, Issue, isIssued, World, toldAt, next, after}
 use Rattle.runs.specs.Endings.{carried, Ending}
 use Rattle.runs.specs.Safety.{Stands, TrueFinding}
 use Rattle.runs.specs.Frames.{turnsOf}
 use Rattle.runs.specs.Wishes.{Wish, insertItem, removeItem, swapPlaces, setRecord, clearRecord, askAbout, Legal}
-use Rattle.runs.specs.Ways.{isOf, found, exchanged}
+use Rattle.runs.specs.Outcomes.{itemsAfter, registersAfter, treeAfter}
 use Rattle.runs.specs.Honest.{honestLines}
 
 -- "each memorandum being read here by the last line that issued it": the same world, its book with the latest line first
@@ -66,33 +65,29 @@ module _ (D : List ℕ → Dig) where
     finding : (f : Finding) → TrueFinding D q f l → says ≡ 0x8e ∷ findingBytes f → TrueReply q l says
     nothing-listed : l ≡ [] → says ≡ 0x8f ∷ be64 q → TrueReply q l says
 
-  -- the list, and the registers: nothing but the root changes, or root and counter where a record does; "for swap the tree
-  -- with exactly those two leaves exchanged"
-  abbrev pub Fulfilled : World → Tree → Wish → (turns : List Turn) → Type 0
-  Fulfilled w T (insertItem A) ts =
-      (fed w ts .items ≡ insert A clearedRecord (w .items))
-      × (fed w ts .registers ≡ rooted (w .registers) (fed w ts .registers .root))
-  Fulfilled w T (removeItem A) ts =
-      (fed w ts .items ≡ remove A (w .items)) × (fed w ts .registers ≡ rooted (w .registers) (fed w ts .registers .root))
-  Fulfilled w T (swapPlaces A B) ts =
-      (fed w ts .items ≡ w .items)
-      × (fed w ts .registers ≡ rooted (w .registers) (hashOf D (exchanged (found (isOf A) T) (found (isOf B) T) T)))
-  Fulfilled w T (setRecord A v2 v3 v4) ts =
-      (fed w ts .items ≡ putRecord A (nextRecord (w .registers) v2 v3 v4) (w .items))
-      × (fed w ts .registers ≡ raised (w .registers) (fed w ts .registers .root))
-  Fulfilled w T (clearRecord A) ts =
-      (fed w ts .items ≡ putRecord A clearedRecord (w .items))
-      × (fed w ts .registers ≡ raised (w .registers) (fed w ts .registers .root))
-  Fulfilled w T (askAbout q) ts =
-      (fed w ts .items ≡ w .items) × (fed w ts .registers ≡ w .registers) × TrueReply q (w .items) (lastReply w ts)
+  -- changes only have to be done
+  abbrev pub Answered : Wish → Items → (says : List ℕ) → Type 0
+  Answered (insertItem A) l says = Unit {0}
+  Answered (removeItem A) l says = Unit {0}
+  Answered (swapPlaces A B) l says = Unit {0}
+  Answered (setRecord A v2 v3 v4) l says = Unit {0}
+  Answered (clearRecord A) l says = Unit {0}
+  Answered (askAbout q) l says = TrueReply q l says
 
   -- the honest lines for a wish, from a world and a tree that stands for it
   abbrev pub turnsFor : World → Tree → Wish → List Turn
   turnsFor w T x = turnsOf (honestLines D (w .registers) T (w .items) x)
 
+  -- They do just what is wanted: the list, the registers and the tree after them are those of `Outcomes`, the tree stands for
+  -- the list again, and a question is answered truly.
   pub record Granted (w : World) (T : Tree) (x : Wish) : Type 0 where
     pub honest : Honest w (turnsFor w T x)
-    pub fulfilled : Fulfilled w T x (turnsFor w T x)
+    pub items : fed w (turnsFor w T x) .items ≡ itemsAfter (w .registers) (w .items) x
+    pub registers : fed w (turnsFor w T x) .registers
+        ≡ registersAfter (w .registers) (hashOf D (treeAfter D (w .registers) T (w .items) x)) x
+    pub stands : Stands D (fed w (turnsFor w T x))
+    pub tree : stands .tree ≡ treeAfter D (w .registers) T (w .items) x
+    pub answered : Answered x (w .items) (lastReply w (turnsFor w T x))
 
   -- open and below the top: a tree stands for the world, and from every such tree every legal wish is granted
   pub record Live (w : World) : Type 0 where

@@ -1,5 +1,5 @@
 -- Where leaves stand in a tree: the way from a leaf up to the root, the ways of two leaves and where they meet, what changes
--- above a leaf that changes, and two leaves that change places.
+-- above a leaf that changes, and leaves replaced.
 use mathlib.Core.Bool.{Bool, true, false}
 use mathlib.Core.List.{List, [], _∷_, _++_}
 use Prim.Native.Nat.{ℕ, zero, suc, _+_, _-_, _*_}
@@ -152,18 +152,22 @@ module _ (D : List ℕ → Dig) where
   abbrev pub risenTwo : Fork → (a b : Edit) → Edit
   risenTwo f a b = risen (f .above) (parents (risen (f .left) a) (risen (f .right) b))
 
--- ── two leaves that change places ──
+-- ── leaves replaced ──
+
+-- a tree in the place of each leaf
+abbrev pub regrown : (Leaf → Tree) → Tree → Tree
+regrown g empty = empty
+regrown g (tip x) = g x
+regrown g (branch l r) = branch (regrown g l) (regrown g r)
 
 abbrev pub ifYes : {P A : Type 0} → Dec P → A → A → A
 ifYes (yes e) a b = a
 ifYes (no n) a b = b
 
--- y where x stood, x where y stood, and every other leaf as it was
-abbrev pub theOther : (x y z : Leaf) → Leaf
-theOther x y z = ifYes (Leaf-discrete z x) y (ifYes (Leaf-discrete z y) x z)
+-- X in the place of the leaf x, and every other leaf as it was
+abbrev pub replacing : (x : Leaf) (X : Tree) → Leaf → Tree
+replacing x X z = ifYes (Leaf-discrete z x) X (tip z)
 
--- the same tree with those two leaves exchanged
-abbrev pub exchanged : (x y : Leaf) → Tree → Tree
-exchanged x y empty = empty
-exchanged x y (tip z) = tip (theOther x y z)
-exchanged x y (branch l r) = branch (exchanged x y l) (exchanged x y r)
+-- X in the place of x and Y in the place of y, and every other leaf as it was
+abbrev pub replacingTwo : (x : Leaf) (X : Tree) (y : Leaf) (Y : Tree) → Leaf → Tree
+replacingTwo x X y Y z = ifYes (Leaf-discrete z x) X (ifYes (Leaf-discrete z y) Y (tip z))

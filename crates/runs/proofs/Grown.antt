@@ -1,0 +1,194 @@
+-- The tree after a change stands for the list after it: its leaves are the new ring, leaf by leaf.
+use mathlib.Core.Path.{_≡_, refl, sym, ap, subst, _∙_}
+use mathlib.Core.Bool.{Bool, true, false}
+use mathlib.Core.List.{List, [], _∷_, List·Memᴰ·cases-cons}
+use mathlib.Core.Logic.{_⊎_, inl, inr, _≢_}
+use Prim.Native.Nat.{ℕ, _+_, _<_}
+use native.Mathlib.Omega.{arith}
+use borrow.Author.Tests.{eqb-true}
+use Rattle.seqs.specs.Choose.{pick}
+use Rattle.paper.specs.declared.Record.{Record}
+use Rattle.paper.specs.Strings.{Dig, nought, recordHash}
+use Rattle.paper.specs.Refusals.{clearedRecord}
+use Rattle.rings.specs.Trees.{Leaf, points, Tree, empty, tip, branch, leaves, hashOf, one, count, Permuted}
+use Rattle.rings.specs.Lists.{Item, item, Listed, Unlisted, insert, remove, putRecord, ring}
+use Rattle.rings.proofs.Counting.{count-nil, count-append, count-only}
+use Rattle.rings.proofs.Gaps.{gap-holds}
+use Rattle.rings.proofs.Items.{remove-head}
+use Rattle.rings.proofs.RingChanges.{insert-ring, remove-ring, put-ring}
+use Rattle.runs.specs.Run.{Items, World}
+use Rattle.runs.specs.Wishes.{IsListed}
+use Rattle.runs.specs.Ways.{itemOf, nextOf, hashIn, isOf, leadsTo, gapHolds, has, found, wayTo, Fork, forkOf, leftOne, rightOne, regrown, replacing, replacingTwo}
+use Rattle.runs.specs.Outcomes.{treeWith, treeWithout, treeSwapped, treeRewritten}
+use Rattle.runs.proofs.Parts.{IsDigest}
+use Rattle.runs.proofs.Places.{rise-plug, located, Forks, forked, around, count-plug, count-two, regrown-one, regrown-two}
+use Rattle.runs.proofs.Standing.{Ground, spotted, of-item}
+use Rattle.runs.proofs.SetClear.{rewrittenRoot}
+use Rattle.runs.proofs.Moves.{once, gap-found}
+use Rattle.runs.proofs.Removes.{no-record-hash, Linked, linked-in, other-leaf, fork-of}
+
+leaf-is : (x : Leaf) (A B : ℕ) (v : Dig) → A ≡ itemOf x → B ≡ nextOf x → v ≡ hashIn x → x ≡ points A B v
+leaf-is (points A B v) A′ B′ v′ e f h = λ i. points (sym e i) (sym f i) (sym h i)
+
+single : (v x : Leaf) → count v (x ∷ []) ≡ one v x
+single v x = count-only v x (x ∷ []) refl
+
+module _ (D : List ℕ → Dig) (DD : (l : List ℕ) → IsDigest (D l)) (w : World) (T : Tree) (g : Ground D w T) where
+  -- ── leaves replaced, counted ──
+
+  one-count : (p : Leaf → Bool) (X : Tree) → has p T ≡ true → (v : Leaf)
+      → count v (leaves (regrown (replacing (found p T) X) T)) + one v (found p T) ≡ count v (leaves T) + count v (leaves X)
+  one-count p X have v =
+      let x = found p T in
+      let at = located p T have in
+      let new : count v (leaves (regrown (replacing x X) T)) ≡ count v (leaves X) + around v (wayTo p T) =
+      ap (λ (t : Tree). count v (leaves t)) (regrown-one x X (wayTo p T) T at (once D DD w T g x)) ∙ count-plug v (wayTo p T) X in
+      let old : count v (leaves T) ≡ count v (x ∷ []) + around v (wayTo p T) =
+      ap (λ (t : Tree). count v (leaves t)) (sym at) ∙ count-plug v (wayTo p T) (tip x) in
+      omega (arith, new, old, single v x)
+
+  two-count : (x y : Leaf) (X Y : Tree) (f : Fork) → x ≢ y → Forks f x y T → (v : Leaf)
+      → count v (leaves (regrown (replacingTwo x X y Y) T)) + one v x + one v y
+      ≡ count v (leaves T) + count v (leaves X) + count v (leaves Y)
+  two-count x y X Y f apart fork v =
+      let new : count v (leaves (regrown (replacingTwo x X y Y) T)) ≡ _ =
+      ap (λ (t : Tree). count v (leaves t)) (regrown-two x X y Y apart f T fork (once D DD w T g x) (once D DD w T g y))
+      ∙ count-two v f (leftOne f X Y) (rightOne f X Y) in
+      let old : count v (leaves T) ≡ _ =
+      ap (λ (t : Tree). count v (leaves t)) (sym fork) ∙ count-two v f (tip (leftOne f x y)) (tip (rightOne f x y)) in
+      omega (arith, new, old, trees (f .crossed), tips (f .crossed), single v x, single v y)
+    where
+      trees : (c : Bool) → count v (leaves (pick c Y X)) + count v (leaves (pick c X Y)) ≡ count v (leaves X) + count v (leaves Y)
+      trees true = omega arith
+      trees false = omega arith
+
+      tips : (c : Bool) → count v (pick c y x ∷ []) + count v (pick c x y ∷ []) ≡ count v (x ∷ []) + count v (y ∷ [])
+      tips true = omega arith
+      tips false = omega arith
+
+  -- ── set, clear ──
+
+  pub rewritten-hash : (A : ℕ) (r new : Record) → Listed A r (w .items)
+      → rewrittenRoot D DD w T g A new ≡ hashOf D (treeRewritten D A new T)
+  rewritten-hash A r new m =
+      let x = found (isOf A) T in
+      let X = tip (points A (nextOf x) (recordHash D new)) in
+      let at = located (isOf A) T (of-item D DD w T g A r m) in
+      rise-plug D (wayTo (isOf A) T) X ∙ ap (hashOf D) (sym (regrown-one x X (wayTo (isOf A) T) T at (once D DD w T g x)))
+
+  pub rewritten-holds : (A : ℕ) (r new : Record) → Listed A r (w .items)
+      → Permuted (leaves (treeRewritten D A new T)) (ring (recordHash D) (putRecord A new (w .items)))
+  rewritten-holds A r new m v =
+      let have = of-item D DD w T g A r m in
+      let t = spotted D DD w T g (isOf A) have in
+      let x = found (isOf A) T in
+      let A′ = nextOf x in
+      let x-is = leaf-is x A A′ (hashIn x) (eqb-true A _ (t .passes)) refl refl in
+      let y = points A A′ (recordHash D new) in
+      let on : 0 < count (points A A′ (hashIn x)) (ring (recordHash D) (w .items)) =
+      subst (λ (u : Leaf). 0 < count u (ring (recordHash D) (w .items))) x-is (t .in-ring) in
+      omega (
+        arith,
+        one-count (isOf A) (tip y) have v,
+        single v y,
+        g .holds v,
+        put-ring (recordHash D) A A′ (hashIn x) new (w .items) (g .ascending) on v,
+        ap (one v) x-is,
+      )
+
+  -- ── swap ──
+
+  pub swapped-holds : (A B : ℕ) → A ≢ B → IsListed A (w .items) → IsListed B (w .items)
+      → Permuted (leaves (treeSwapped D A B T)) (ring (recordHash D) (w .items))
+  swapped-holds A B apart m n v =
+      let x = found (isOf A) T in
+      let z = found (isOf B) T in
+      let hx = of-item D DD w T g A (m .0) (m .1) in
+      let hz = of-item D DD w T g B (n .0) (n .1) in
+      let A-is : A ≡ itemOf x = eqb-true A _ (spotted D DD w T g (isOf A) hx .passes) in
+      let B-is : B ≡ itemOf z = eqb-true B _ (spotted D DD w T g (isOf B) hz .passes) in
+      let other : x ≢ z = λ e. apart (A-is ∙ ap itemOf e ∙ sym B-is) in
+      let c = two-count x z (tip z) (tip x) (forkOf (isOf A) (isOf B) T) other (forked (isOf A) (isOf B) T hx hz other) v in
+      omega (arith, c, single v x, single v z, g .holds v)
+
+  -- ── insert ──
+
+  pub with-holds : (A : ℕ) → 0 < A → Unlisted A (w .items)
+      → Permuted (leaves (treeWith D A T (w .items))) (ring (recordHash D) (insert A clearedRecord (w .items)))
+  unfolding insert
+  with-holds A positive free v = by-items (w .items) refl
+    where
+      alone : w .items ≡ [] → count v (points A A nought ∷ []) ≡ count v (ring (recordHash D) (insert A clearedRecord (w .items)))
+      alone e = rw (e, no-record-hash D) refl
+
+      beside : has (gapHolds A) T ≡ true → (i : Item Record) (l : Items)
+          → count v (leaves (treeWith D A T (i ∷ l))) ≡ count v (ring (recordHash D) (insert A clearedRecord (w .items)))
+      beside have i l =
+          let t = spotted D DD w T g (gapHolds A) have in
+          let x = found (gapHolds A) T in
+          let B = itemOf x in
+          let B′ = nextOf x in
+          let x-is = leaf-is x B B′ (hashIn x) refl refl refl in
+          let a = points B A (hashIn x) in
+          let b = points A B′ nought in
+          let b-is : points A B′ (recordHash D clearedRecord) ≡ b = ap (points A B′) (no-record-hash D) in
+          let on : 0 < count (points B B′ (hashIn x)) (ring (recordHash D) (w .items)) =
+          subst (λ (u : Leaf). 0 < count u (ring (recordHash D) (w .items))) x-is (t .in-ring) in
+          let c = insert-ring (recordHash D) A B B′ (hashIn x) clearedRecord (w .items) (g .ascending)
+          (gap-holds A B B′ (t .passes)) on v in
+          omega (
+            arith,
+            one-count (gapHolds A) (branch (tip a) (tip b)) have v,
+            count-append v (a ∷ []) (b ∷ []),
+            single v a,
+            single v b,
+            g .holds v,
+            c,
+            ap (one v) x-is,
+            ap (one v) b-is,
+          )
+
+      by-items : (l : Items) → w .items ≡ l
+          → count v (leaves (treeWith D A T l)) ≡ count v (ring (recordHash D) (insert A clearedRecord (w .items)))
+      by-items [] e = alone e
+      by-items (item a r ∷ l) e = beside (gap-found D DD w T g A a r l positive free e) (item a r) l
+
+  -- ── remove ──
+
+  pub without-holds : (A : ℕ) → Listed A clearedRecord (w .items)
+      → Permuted (leaves (treeWithout D A T (w .items))) (ring (recordHash D) (remove A (w .items)))
+  without-holds A m v = by-items (w .items) refl
+    where
+      only : (a : ℕ) (r : Record) → w .items ≡ item a r ∷ [] → (item A clearedRecord ≡ item a r) ⊎ Listed A clearedRecord []
+          → count v [] ≡ count v (ring (recordHash D) (remove A (w .items)))
+      only a r e (inl p) =
+          let q : A ≡ a = cc in
+          rw (e, q, remove-head a r []) refl
+      only a r e (inr j) = elim j [ ]
+
+      between : Linked D DD w T g A → (i j : Item Record) (l : Items)
+          → count v (leaves (treeWithout D A T (i ∷ j ∷ l))) ≡ count v (ring (recordHash D) (remove A (w .items)))
+      between k i j l =
+          let x = found (leadsTo A) T in
+          let z = found (isOf A) T in
+          let B = itemOf x in
+          let B′ = nextOf z in
+          let y = points B B′ (hashIn x) in
+          let tx = spotted D DD w T g (leadsTo A) (k .before) in
+          let tz = spotted D DD w T g (isOf A) (k .own) in
+          let x-is = leaf-is x B A (hashIn x) refl (k .before-next) refl in
+          let z-is = leaf-is z A B′ nought (k .own-item) refl (k .own-empty) in
+          let on-x : 0 < count (points B A (hashIn x)) (ring (recordHash D) (w .items)) =
+          subst (λ (u : Leaf). 0 < count u (ring (recordHash D) (w .items))) x-is (tx .in-ring) in
+          let on-z : 0 < count (points A B′ nought) (ring (recordHash D) (w .items)) =
+          subst (λ (u : Leaf). 0 < count u (ring (recordHash D) (w .items))) z-is (tz .in-ring) in
+          let f = forkOf (leadsTo A) (isOf A) T in
+          let c = two-count x z (tip y) empty f (other-leaf D DD w T g A k) (fork-of D DD w T g A k) v in
+          let d = remove-ring (recordHash D) A B B′ (hashIn x) nought (w .items) (g .ascending) (k .apart) on-x on-z v in
+          omega (arith, c, d, single v y, count-nil v, g .holds v, ap (one v) x-is, ap (one v) z-is)
+
+      by-items : (l : Items) → w .items ≡ l → count v (leaves (treeWithout D A T l))
+          ≡ count v (ring (recordHash D) (remove A (w .items)))
+      by-items [] e = elim (rw e at m) [ ]
+      by-items (item a r ∷ []) e = only a r e (List·Memᴰ·cases-cons (rw e at m))
+      by-items (item a r ∷ item b t ∷ l) e = between (linked-in D DD w T g A a b r t l m e) (item a r) (item b t) l
