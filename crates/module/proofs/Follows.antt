@@ -23,8 +23,13 @@ use Rattle.paper.proofs.Ceilings.{ceilings}
 use Rattle.paper.proofs.Older.{older-gets-8}
 use Rattle.module.proofs.Laws.{with-room, is-hex}
 use Rattle.module.specs.declared.Answered.{Answered}
+use Rattle.module.specs.declared.Replied.{Replied}
 use Rattle.module.specs.Answering.{answeredOf}
-use Rattle.module.specs.Laws.{RefusalKeeps, OnlyTheReply, OneOutcome, UnderTheCeiling, OlderMemorandum, Opens, RefusingBreaks}
+use Rattle.module.specs.Laws.{RefusalKeeps, OnlyTheReply, OneOutcome, OneOutcomeHere, UnderTheCeiling, OlderMemorandum, Opens, RefusingBreaks}
+
+-- what comes back beside the registers
+abbrev repliedOf : Answered → Replied
+repliedOf x = record { refused = x .refused; length = x .length; blocks = x .blocks }
 
 kept : (s : Registers) (k : ℕ) (q : Q.Request) (v : Verdict) → (told sha256 s k q v .refusal ≡ 0 → ⊥)
     → told sha256 s k q v .after ≡ s
@@ -54,6 +59,14 @@ only-the-reply s line space after o p =
 
 pub one-outcome : OneOutcome
 one-outcome s line space after after′ o o′ p p′ = (p .returned ∙ sym (p′ .returned), p .left ∙ sym (p′ .left))
+
+pub one-outcome-here : OneOutcomeHere
+one-outcome-here s t t′ line space after after′ o o′ p p′ =
+    let e = p .returned ∙ sym (p′ .returned) in (
+      ap (λ (x : Answered). x .registers) e,
+      ap (λ (x : Answered). repliedOf x) e,
+      p .left ∙ sym (p′ .left),
+    )
 
 pub under-the-ceiling : UnderTheCeiling
 under-the-ceiling s line space after o p =

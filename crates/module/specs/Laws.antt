@@ -17,7 +17,8 @@ use Rattle.paper.specs.Ceilings.{ceiling}
 use Rattle.paper.specs.Collisions.{Collision}
 use Rattle.paper.specs.Older.{Later}
 use Rattle.module.specs.declared.Answered.{Answered}
-use Rattle.module.specs.Answering.{answeredOf}
+use Rattle.module.specs.declared.Replied.{Replied}
+use Rattle.module.specs.Answering.{answered, answeredOf}
 
 -- what `answer` promises: of what it returns, and of the reply space afterwards
 pub record Promised (s : Registers) (line space : List ℕ) (o : Answered) (after : List ℕ) : Type 0 where
@@ -38,6 +39,12 @@ OnlyTheReply = (s : Registers) (line space after : List ℕ) (o : Answered) → 
 abbrev pub OneOutcome : Type 0
 OneOutcome = (s : Registers) (line space after after′ : List ℕ) (o o′ : Answered)
     → Promised s line space o after → Promised s line space o′ after′ → (o ≡ o′) × (after ≡ after′)
+
+-- the same where the registers lie: what they hold afterwards, what comes back, and the reply space
+abbrev pub OneOutcomeHere : Type 0
+OneOutcomeHere = (s t t′ : Registers) (line space after after′ : List ℕ) (o o′ : Replied)
+    → Promised s line space (answered t o) after → Promised s line space (answered t′ o′) after′
+    → (t ≡ t′) × (o ≡ o′) × (after ≡ after′)
 
 -- "Each request's count has a stated ceiling"
 abbrev pub UnderTheCeiling : Type 0

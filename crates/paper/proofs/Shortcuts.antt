@@ -11,4 +11,6 @@ shortcuts D =
       gap-tested = λ s A A′ B′ ω y y′ m o a b c g. rw (o, a, b, c, g) refl;
       malformed-refused = λ s q A A′ r y m o a b c g. rw (o, a, b, c, g) refl;
       zero-given = λ s y y′ o h. rw (o, h) refl;
+      shut-first = λ s o. rw o refl;
+      adopt-keeps-counter = λ s y y′ m. refl;
     }

@@ -1,4 +1,5 @@
--- Document 01, "Shortcuts that look right": what they would let in is refused. `proofs/Shortcuts` shows it.
+-- Document 01, "Shortcuts that look right": what they would let in is refused; and two more that are soon taken.
+-- `proofs/Shortcuts` shows it.
 use mathlib.Core.Path.{_≡_}
 use mathlib.Core.Bool.{true, false}
 use mathlib.Core.List.{List, []}
@@ -9,8 +10,9 @@ use Rattle.seqs.specs.Bytes.{same}
 use Rattle.paper.specs.declared.Record.{Record}
 use Rattle.paper.specs.declared.Registers.{Registers}
 use Rattle.paper.specs.Strings.{Dig, nought, ei, memo, digest, malformed, inGap}
-use Rattle.paper.specs.Requests.{Request, place, adopt, ask}
+use Rattle.paper.specs.Requests.{Request, first, place, adopt, ask}
 use Rattle.paper.specs.Refusals.{order, needs, judge}
+use Rattle.paper.specs.Answers.{answer}
 use Rattle.paper.specs.Module.{refusalOf}
 
 module _ (D : List ℕ → Dig) where
@@ -30,3 +32,7 @@ module _ (D : List ℕ → Dig) where
     -- "Reading an all-zero memorandum as "none given""
     pub zero-given : (s : Registers) (y y′ : Dig) → s .opened ≡ true → same (digest D (memo (ei y y′) (s .secret))) nought ≡ false
         → refusalFor s (adopt y y′ nought) ≡ 8
+    -- "Checked in this order": 13 comes before 4
+    pub shut-first : (s : Registers) → s .opened ≡ false → refusalFor s (first 0) ≡ 13
+    -- the counter is of record changes: adopt leaves it
+    pub adopt-keeps-counter : (s : Registers) (y y′ m : Dig) → answer D s (adopt y y′ m) .after .counter ≡ s .counter
