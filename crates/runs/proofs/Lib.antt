@@ -15,6 +15,7 @@ pub mod Moves
 pub mod Parts
 pub mod Places
 pub mod Reach
+pub mod Readings
 pub mod Removes
 pub mod Rings
 pub mod Runs

@@ -1,19 +1,24 @@
--- What else holds of runs: the root settles the list; both readings of memoranda come to one list; the endings are the only
--- way out; and what is read by the earliest line stays as that line meant it.
+-- What else holds of runs: the root settles the list; both readings of memoranda come to one list, so that honest lines do for
+-- the replay of runs what they do by their own reading; the endings are the only way out; and what is read by the earliest
+-- line stays as that line meant it.
 use mathlib.Core.Path.{_≡_}
 use mathlib.Core.Bool.{true}
 use mathlib.Core.List.{List, [], _∷_, _++_}
 use mathlib.Core.Logic.{_⊎_}
-use Prim.Native.Nat.{ℕ}
+use Prim.Native.Nat.{ℕ, _<_}
 use lib.ListN.{length}
+use Rattle.seqs.specs.Bytes.{Bytes}
 use Rattle.sha256.specs.Hash.{sha256}
 use Rattle.paper.specs.Strings.{Dig, Str}
+use Rattle.paper.specs.Refusals.{top}
 use Rattle.paper.specs.Collisions.{Collision}
 use Rattle.rings.specs.Endings.{ZeroDigest}
-use Rattle.runs.specs.Run.{Turn, standsFor, isIssued, after}
+use Rattle.runs.specs.Run.{Turn, Items, standsFor, isIssued, after}
 use Rattle.runs.specs.Endings.{Forged, Ending}
-use Rattle.runs.specs.Safety.{Safe}
-use Rattle.runs.specs.Liveness.{latestFirst, fed}
+use Rattle.runs.specs.Safety.{Stands, Safe}
+use Rattle.runs.specs.Wishes.{Wish, Legal}
+use Rattle.runs.specs.Outcomes.{itemsAfter}
+use Rattle.runs.specs.Liveness.{latestFirst, fed, turnsFor}
 
 -- further lines, in order, behind those of a run, the latest first
 abbrev pub onwards : (further run : List Turn) → List Turn
@@ -50,6 +55,19 @@ module _ (D : List ℕ → Dig) where
   NoOtherWayOut =
       (k : Dig) (ts : List Turn) → (Shown (after D k ts .formed) → ⊥) → (AnyForged k ts → ⊥) → Safe D k ts
 
+  -- Granted wishes seen by the replay of runs: behind the honest lines the run has ended, or its own list is the one wanted and
+  -- a tree stands for it.
+  pub record Replayed (k : Dig) (ts us : List Turn) (l : Items) : Type 0 where
+    pub items : after D k (onwards us ts) .items ≡ l
+    pub stands : Stands D (after D k (onwards us ts))
+
+  abbrev pub HonestReplayed : Type 0
+  HonestReplayed =
+      (k : Dig) (ts : List Turn) → after D k ts .registers .opened ≡ true → after D k ts .registers .counter .0 < top
+      → (t : Stands D (after D k ts)) (x : Wish) → Legal (after D k ts .items) x
+      → (let us = turnsFor D (after D k ts) (t .tree) x in
+      Ending D k (onwards us ts) ⊎ Replayed k ts us (itemsAfter (after D k ts .registers) (after D k ts .items) x))
+
   -- "A memorandum stands for what the earliest line that issued it does": whatever lines follow
   abbrev pub EarliestStays : Type 0
   EarliestStays =
@@ -66,3 +84,5 @@ module _ (D : List ℕ → Dig) where
 pub record Also : Type 0 where
   pub at-sha256 : AlsoFor sha256
   pub at-any : (D : List ℕ → Dig) → ((l : List ℕ) → length (D l) ≡ 32) → AlsoFor D
+  pub honest-at-sha256 : HonestReplayed sha256
+  pub honest-at-any : (D : List ℕ → Dig) → ((l : List ℕ) → length (D l) ≡ 32) → ((l : List ℕ) → Bytes (D l)) → HonestReplayed D
