@@ -20,7 +20,7 @@ use Rattle.runs.specs.Run.{Turn, Items, Issue, standsFor, isIssued, issu
 use Rattle.runs.specs.Endings.{Ending, collision, zero, forged, earlier}
 use Rattle.runs.specs.Safety.{AllFair, Safe, SafeOrEnded}
 use Rattle.runs.specs.Liveness.{latestFirst, fed, turnsFor, Live, LiveOrEnded}
-use Rattle.runs.specs.Also.{onwards, Shown, RootSettlesList, AnyForged, NoOtherWayOut, Replayed, HonestReplayed, EarliestStays, AlsoFor, Also}
+use Rattle.runs.specs.Also.{onwards, Shown, RootSettlesList, AnyForged, NoOtherWayOut, Replayed, HonestReplayed, EarliestStays, NotEndedAtFirst, AlsoFor, Also}
 use Rattle.runs.proofs.Formed.{Well, well-at, well-append}
 use Rattle.runs.proofs.Safe.{Core}
 use Rattle.runs.proofs.Runs.{side, run, stands-of, safety}
@@ -112,6 +112,10 @@ module _ (D : List ℕ → Dig) where
   earliest-stays k ts t m h = stands-append m (after D k ts .book)
       (issuedBy D (after D k ts) (toldAt D (after D k ts) t .effect)) h
 
+not-ended-at-first : (D : List ℕ → Dig) → NotEndedAtFirst D
+not-ended-at-first D k (collision c) = elim (c .one-formed) [ ]
+not-ended-at-first D k (zero z) = elim (z .string-formed) [ ]
+
 also-for : (D : List ℕ → Dig) → ((l : List ℕ) → length (D l) ≡ 32) → AlsoFor D
 also-for D D32 =
     record {
@@ -119,6 +123,7 @@ also-for D D32 =
       readings-agree = readings-agree D D32;
       no-other-way-out = no-other-way-out D (safety .at-any D D32);
       earliest-stays = earliest-stays D;
+      not-ended-at-first = not-ended-at-first D;
     }
 
 -- ── granted wishes, replayed ──

@@ -331,6 +331,20 @@ module _ (D : List ℕ → Dig) (D32 : (l : List ℕ) → length (D l) ≡ 32) w
           let f = bytesOf (t .line) in
           subst (Out by w (asked t)) (sym e) (by-verdict w (kindOf f) (asked t) by _ refl (wide f (line-bytes (t .line)) j l) c)
 
+  -- an accepted line's reply is its kind plus 80 and what its answer lists
+  replied : (w : World) (t : Turn) → toldAt D w t .refusal ≡ 0
+      → toldAt D w t .says ≡ (0x80 + kindOf (bytesOf (t .line))) ∷ answer D (w .registers) (asked t) .lists
+  replied w t h = by-sort (sorted D (w .registers) (t .line) (t .space))
+    where
+      by-sort : Sorted D (w .registers) (t .line) (t .space)
+          → toldAt D w t .says ≡ (0x80 + kindOf (bytesOf (t .line))) ∷ answer D (w .registers) (asked t) .lists
+      by-sort (early n z e) = absurd (z (sym (ap (λ (a : Told). a .refusal) e) ∙ h))
+      by-sort (on-time a b c d e) =
+          let k = kindOf (bytesOf (t .line)) in
+          let p = passes w k (asked t) (sym (ap (λ (a : Told). a .refusal) e) ∙ h) in
+          ap (λ (a : Told). a .says) e
+          ∙ ap (λ (v : Verdict). told D (w .registers) k (asked t) v .says) (judge-passed late [] (needs D (w .registers) (asked t)) p)
+
   line-side : (by : Reading) (k : Dig) (w : World) (t : Turn) → Side k w → Side k (next D by w t)
   line-side by k w t v = by-sort (sorted D (w .registers) (t .line) (t .space))
     where
@@ -381,7 +395,7 @@ module _ (D : List ℕ → Dig) (D32 : (l : List ℕ) → length (D l) ≡ 32) w
       land f (inl (inl x)) = inl (shown k (t ∷ ts) x)
       land f (inl (inr x)) =
           inl (forged t (record { accepted = x .0; memorandum = x .1 .0; carries = x .1 .1; unissued = x .1 .2 }))
-      land f (inr x) = inr (x .0, (record { true-answer = x .1; legal = x .2 }, f))
+      land f (inr x) = inr (x .0, (record { true-answer = x .1; replied = replied (after D k ts) t; legal = x .2 }, f))
 
       on : Ending D k ts ⊎ (Core D D32 (after D k ts) × AllFair D k ts)
           → Ending D k (t ∷ ts) ⊎ (Core D D32 (after D k (t ∷ ts)) × AllFair D k (t ∷ ts))

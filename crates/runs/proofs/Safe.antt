@@ -1,11 +1,12 @@
 -- After each line of any run: an ending, or the root stands for the replayed list and every answer was true (demand 3, first
 -- half).
 use mathlib.Core.Path.{_≡_, refl, sym, ap, subst, _∙_}
-use mathlib.Core.Bool.{Bool, true, false}
+use mathlib.Core.Bool.{Bool, true, false, true≢false}
 use mathlib.Core.List.{List, [], _∷_, _++_, List·Memᴰ, List·Memᴰ·head, Memᴰ·append-left, Memᴰ·append-right}
 use mathlib.Core.Logic.{_⊎_, inl, inr}
 use Prim.Native.Nat.{ℕ, _+_}
-use borrow.Author.Tests.{eqb-true}
+use native.Mathlib.Omega.{arith}
+use borrow.Author.Tests.{eqb-true, ne-eqb}
 use lib.Dec.{eqb}
 use lib.ListN.{length}
 use Rattle.seqs.specs.Choose.{pick, either}
@@ -140,8 +141,8 @@ module _ (D : List ℕ → Dig) (D32 : (l : List ℕ) → length (D l) ≡ 32) w
       -- a record that changes
       changed : (q : Request) (A : ℕ) (old new : Record) (y′ : Dig) → answer D s q .after .root ≡ y′
           → answer D s q .after .counter .0 ≡ s .counter .0 + 1 → answer D s q .effect ≡ changes A new → TrueAnswer D q (w .items)
-          → Or D D32 w (G q) q (L.Put (digest D) (G q) y′ A old new (w .items)) → Comes q
-      changed q A old new y′ e₁ e₂ e₃ tr o = do
+          → (blank new ≡ true → blank old ≡ false) → Or D D32 w (G q) q (L.Put (digest D) (G q) y′ A old new (w .items)) → Comes q
+      changed q A old new y′ e₁ e₂ e₃ tr full o = do
         p ← o
         inr (
           record {
@@ -152,7 +153,7 @@ module _ (D : List ℕ → Dig) (D32 : (l : List ℕ) → length (D l) ≡ 32) w
             counter = rw e₃ (e₂ ∙ ap (λ (n : ℕ). n + 1) (v .counter));
           },
           tr,
-          rw e₃ (old, p .was),
+          rw e₃ (old, p .was, full),
         )
 
       pub accepted : (q : Request) → Given D D32 w (G q) q → Comes q
@@ -203,10 +204,11 @@ module _ (D : List ℕ → Dig) (D32 : (l : List ℕ) → length (D l) ≡ 32) w
       accepted (Q.setTo A A′ old v2 v3 v4 y y′ m) g =
           let q = Q.setTo A A′ old v2 v3 v4 y y′ m in
           changed q A old _ y′ refl refl refl tt
+          (λ e. absurd (true≢false (sym e ∙ ne-eqb (s .counter .0 + 1) 0 (λ z. omega arith))))
           (E.set-record D D32 w (G q) (backed q) (v .tree) (v .root) (standing q) A A′ old v2 v3 v4 y y′ m g)
       accepted (Q.clear A A′ old y y′ m) g =
           let q = Q.clear A A′ old y y′ m in
-          changed q A old _ y′ refl refl refl tt
+          changed q A old _ y′ refl refl refl tt (λ e. g .none-fails .1 .1 .1 .1 .0)
           (E.clear D D32 w (G q) (backed q) (v .tree) (v .root) (standing q) A A′ old y y′ m g)
       accepted (Q.ask q A A′ r y m) g = do
         let h = g .none-fails .1 .1 .1 .1

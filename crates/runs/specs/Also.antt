@@ -74,11 +74,16 @@ module _ (D : List ℕ → Dig) where
       (k : Dig) (ts : List Turn) (t : Turn) (m : Dig) → isIssued m (after D k ts .book) ≡ true
       → standsFor m (after D k (t ∷ ts) .book) ≡ standsFor m (after D k ts .book)
 
+  -- an ending takes something that a line did: before the first one there is none
+  abbrev pub NotEndedAtFirst : Type 0
+  NotEndedAtFirst = (k : Dig) → Ending D k [] → ⊥
+
   pub record AlsoFor : Type 0 where
     pub root-settles : RootSettlesList
     pub readings-agree : ReadingsAgree
     pub no-other-way-out : NoOtherWayOut
     pub earliest-stays : EarliestStays
+    pub not-ended-at-first : NotEndedAtFirst
 
 -- for SHA-256, and for any digest of 32 bytes
 pub record Also : Type 0 where

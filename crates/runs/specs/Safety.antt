@@ -3,7 +3,7 @@ use mathlib.Core.Path.{_≡_}
 use mathlib.Core.Bool.{true, false}
 use mathlib.Core.List.{List, [], _∷_, List·Memᴰ}
 use mathlib.Core.Logic.{_⊎_}
-use Prim.Native.Nat.{ℕ}
+use Prim.Native.Nat.{ℕ, _+_}
 use lib.ListN.{length}
 use Rattle.sha256.specs.Hash.{sha256}
 use Rattle.hex.specs.Hex.{bytesOf}
@@ -11,9 +11,9 @@ use Rattle.paper.specs.declared.Record.{Record}
 use Rattle.paper.specs.declared.Finding.{Finding}
 use Rattle.paper.specs.declared.Finding.the-variants.{Recorded, Listed as Empty, Gap}
 use Rattle.paper.specs.Strings.{Dig, blank, inGap, recordHash}
-use Rattle.paper.specs.Requests.{Request, path, witness, join, pair, raise, swap, first, place, turn, chain, adopt, setTo, clear, ask, askNone, unlock, requestOf}
+use Rattle.paper.specs.Requests.{Request, path, witness, join, pair, raise, swap, first, place, turn, chain, adopt, setTo, clear, ask, askNone, unlock, kindOf, requestOf}
 use Rattle.paper.specs.Refusals.{clearedRecord}
-use Rattle.paper.specs.Answers.{Effect, none′, issues, adopts, changes, findingOf}
+use Rattle.paper.specs.Answers.{Effect, none′, issues, adopts, changes, findingOf, answer}
 use Rattle.rings.specs.Trees.{Tree, points, leaves, hashOf, Permuted}
 use Rattle.rings.specs.Lists.{Ascending, Listed, Unlisted, ring}
 use Rattle.rings.specs.Changes.{LegalSteps}
@@ -58,16 +58,21 @@ module _ (D : List ℕ → Dig) where
   TrueAnswer (askNone q) l = l ≡ []
   TrueAnswer (unlock k) l = Unit {0}
 
-  -- each adopted change was legal where it was adopted, and a record changes only at a listed item
+  -- each adopted change was legal where it was adopted; a record changes only at a listed item, and is emptied only where
+  -- there was one
   abbrev pub LegalEffect : World → Effect → Type 0
   LegalEffect w none′ = Unit {0}
   LegalEffect w (issues t c) = Unit {0}
   LegalEffect w (adopts m) = LegalSteps (standsFor m (w .book)) (w .items)
-  LegalEffect w (changes A r) = (s : Record) × Listed A s (w .items)
+  LegalEffect w (changes A r) = (s : Record) × Listed A s (w .items) × (blank r ≡ true → blank s ≡ false)
 
   -- one line at its world
   pub record Fair (w : World) (t : Turn) : Type 0 where
     pub true-answer : toldAt D w t .refusal ≡ 0 → TrueAnswer (requestOf (bytesOf (t .line))) (w .items)
+    -- and that answer is what the reply's bytes list: for an ask, the finding
+    pub replied : toldAt D w t .refusal ≡ 0
+        → toldAt D w t .says
+        ≡ (0x80 + kindOf (bytesOf (t .line))) ∷ answer D (w .registers) (requestOf (bytesOf (t .line))) .lists
     pub legal : LegalEffect w (toldAt D w t .effect)
 
   -- every line so far
