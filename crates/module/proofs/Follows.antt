@@ -1,31 +1,31 @@
 -- The statements of `specs/Laws`.
-use mathlib.Core.Path.{_≡_, refl, sym, ap, _∙_}
+use mathlib.Core.Path.{_≡_, refl, sym, ap, subst, _∙_}
 use mathlib.Core.List.{List, [], _∷_, _++_}
-use mathlib.Core.Bool.{true, false}
+use mathlib.Core.Bool.{Bool, true, false}
 use mathlib.Core.Logic.{_⊎_, inl, inr}
 use Prim.Native.Nat.{ℕ, zero, suc, _≤_}
 use native.Mathlib.Omega.{arith}
 use lib.ListN.{length, drop, replicate}
 use lib.Seq.{drop-at, take-all}
-use Rattle.seqs.specs.Bytes.{Bytes, allZero}
+use Rattle.seqs.specs.Bytes.{Bytes, allZero, be64}
 use Rattle.sha256.specs.Hash.{sha256}
 use Rattle.sha256.proofs.Digests.{sha256-length}
-use Rattle.hex.specs.Hex.{bytesOf, digitsOf}
+use Rattle.hex.specs.Hex.{isDigit, valueOf, digitOf, bytesOf, digitsOf}
 use Rattle.hex.proofs.Laws.{bytes-of-digits, digits-all, digits-length}
 use Rattle.paper.specs.declared.Registers.{Registers}
 use Rattle.paper.specs.Requests as Q
 use Rattle.paper.specs.Requests.{kinds, known, fits, kindOf, requestOf}
-use Rattle.paper.specs.Refusals.{order, roomFor, replyRoom, isHex, needs, Verdict, refused, passed, judge}
-use Rattle.paper.specs.Module.{frameChecks, Told, told, answerFrame, answerTo, replyLine}
+use Rattle.paper.specs.Refusals.{Check, order, replyRoom, isHex, Verdict, refused, passed, judge, Passed, FirstToApply}
+use Rattle.paper.specs.Module.{Told, told, answerFrame, checksOf, answerTo, replyLine}
 use Rattle.paper.specs.Strings.{Dig, cost}
-use Rattle.paper.specs.ByHand.{unopened}
+use Rattle.paper.proofs.Verdicts.{firstOf, number-is, first-given, first-only, passed-none}
 use Rattle.paper.proofs.Ceilings.{ceilings}
 use Rattle.paper.proofs.Older.{older-gets-8}
 use Rattle.module.proofs.Laws.{with-room, is-hex}
 use Rattle.module.specs.declared.Answered.{Answered}
 use Rattle.module.specs.declared.Replied.{Replied}
 use Rattle.module.specs.Answering.{answeredOf}
-use Rattle.module.specs.Laws.{RefusalKeeps, OnlyTheReply, OneOutcome, OneOutcomeHere, UnderTheCeiling, OlderMemorandum, Opens, RefusingBreaks}
+use Rattle.module.specs.Laws.{RefusalKeeps, RefusalIsFirst, OnlyTheReply, OneOutcome, OneOutcomeHere, UnderTheCeiling, OlderMemorandum, Opens, RefusingBreaks}
 
 -- what comes back beside the registers
 abbrev repliedOf : Answered → Replied
@@ -42,12 +42,31 @@ unfolding answerTo
 kept-line s line space h =
     let f = bytesOf line in
     kept s (kindOf f) (requestOf f)
-    (judge order [] (roomFor replyRoom space ∷ isHex line ∷ (frameChecks f ++ needs sha256 s (requestOf f)))) h
+    (judge order [] (checksOf sha256 s line space)) h
 
 pub refusal-keeps : RefusalKeeps
 refusal-keeps s line space after o p h =
     ap (λ (x : Answered). x .registers) (p .returned)
     ∙ kept-line s line (length space) (λ e. h (ap (λ (x : Answered). x .refused) (p .returned) ∙ e))
+
+number-of : (s : Registers) (line : List ℕ) (space : ℕ)
+    → answerTo sha256 s line space .refusal ≡ firstOf order (checksOf sha256 s line space)
+unfolding answerTo
+number-of s line space =
+    let f = bytesOf line in
+    number-is sha256 s (kindOf f) (requestOf f) order [] (checksOf sha256 s line space)
+
+pub refusal-is-first : RefusalIsFirst
+refusal-is-first s line space after o p =
+    let cs : List Check = checksOf sha256 s line (length space) in
+    let e : o .refused ≡ firstOf order cs =
+    ap (λ (x : Answered). x .refused) (p .returned) ∙ number-of s line (length space) in
+    record {
+      given =
+          subst (λ (n : ℕ). (Passed order cs × (n ≡ 0)) ⊎ FirstToApply order cs n) (sym e) (first-given order cs);
+      refused-when = λ n h. e ∙ first-only order cs n h;
+      accepted-when = λ h. e ∙ passed-none order cs h;
+    }
 
 pub only-the-reply : OnlyTheReply
 only-the-reply s line space after o p =
@@ -121,10 +140,25 @@ ones : (n : ℕ) → Bytes (replicate n 1)
 ones zero = tt
 ones (suc n) = (omega arith, ones n)
 
+-- an open module takes a path of no levels, whatever its registers
+abbrev levelPath : List ℕ
+levelPath = 0x01 ∷ replicate 73 0
+
+level-accepted : (s : Registers) → s .opened ≡ true → answerTo sha256 s (digitsOf levelPath) replyRoom .refusal ≡ 0
+unfolding answerTo requestOf fits known kinds isDigit valueOf digitOf be64
+level-accepted s h = rw h refl
+
 pub refusing-breaks : RefusingBreaks
-refusing-breaks m keeps refuses =
-    let s : Registers = unopened in
-    let k : Dig = replicate 32 1 in
-    let line = digitsOf (0x10 ∷ k) in
-    let space : List ℕ = replicate 195 0 in
-    refuses s line space (opens s k space (m s line space .1) (m s line space .0) refl refl (ones 32) refl (omega arith) (keeps s line space) .0)
+refusing-breaks m keeps s refuses = by-open (s .opened) refl
+  where
+    by-open : (b : Bool) → s .opened ≡ b → ⊥
+    by-open true h =
+        let space : List ℕ = replicate 195 0 in
+        let line = digitsOf levelPath in
+        refuses line space (ap (λ (x : Answered). x .refused) (keeps s line space .returned) ∙ level-accepted s h)
+    by-open false h =
+        let space : List ℕ = replicate 195 0 in
+        let k : Dig = replicate 32 1 in
+        let line = digitsOf (0x10 ∷ k) in
+        let o = m s line space in
+        refuses line space (opens s k space (o .1) (o .0) h refl (ones 32) refl (omega arith) (keeps s line space) .0)

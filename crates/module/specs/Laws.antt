@@ -10,9 +10,9 @@ use Rattle.hex.specs.Hex.{bytesOf, digitsOf}
 use Rattle.sha256.specs.Hash.{sha256}
 use Rattle.paper.specs.declared.Registers.{Registers}
 use Rattle.paper.specs.Requests.{requestOf}
-use Rattle.paper.specs.Refusals.{replyRoom}
+use Rattle.paper.specs.Refusals.{Check, order, replyRoom, Passed, FirstToApply}
 use Rattle.paper.specs.Answers.{unlocked}
-use Rattle.paper.specs.Module.{answerTo, spaceAfter}
+use Rattle.paper.specs.Module.{checksOf, answerTo, spaceAfter}
 use Rattle.paper.specs.Ceilings.{ceiling}
 use Rattle.paper.specs.Collisions.{Collision}
 use Rattle.paper.specs.Older.{Later}
@@ -29,6 +29,17 @@ pub record Promised (s : Registers) (line space : List ℕ) (o : Answered) (afte
 abbrev pub RefusalKeeps : Type 0
 RefusalKeeps = (s : Registers) (line space after : List ℕ) (o : Answered) → Promised s line space o after
     → (o .refused ≡ 0 → ⊥) → o .registers ≡ s
+
+-- demand 1: "Each refusal is one of the fifteen .. given exactly when its condition is the first to apply", and 0 comes
+-- back exactly when none applies
+pub record FirstGiven (cs : List Check) (o : Answered) : Type 0 where
+  pub given : (Passed order cs × (o .refused ≡ 0)) ⊎ FirstToApply order cs (o .refused)
+  pub refused-when : (n : ℕ) → FirstToApply order cs n → o .refused ≡ n
+  pub accepted-when : Passed order cs → o .refused ≡ 0
+
+abbrev pub RefusalIsFirst : Type 0
+RefusalIsFirst = (s : Registers) (line space after : List ℕ) (o : Answered) → Promised s line space o after
+    → FirstGiven (checksOf sha256 s line (length space)) o
 
 -- behind the reply's line every byte of the space is as it was
 abbrev pub OnlyTheReply : Type 0
@@ -66,8 +77,8 @@ Opens = (s : Registers) (secret space after : List ℕ) (o : Answered) → s .op
     → Promised s (digitsOf (0x10 ∷ secret)) space o after
     → (o .refused ≡ 0) × (o .registers ≡ unlocked s secret)
 
--- "a module that refuses everything" keeps no such promise
+-- "a module that refuses everything" keeps no such promise: whatever its registers, open or not, some line is accepted
 abbrev pub RefusingBreaks : Type 0
 RefusingBreaks = (m : Registers → (line space : List ℕ) → Answered × List ℕ)
     → ((s : Registers) (line space : List ℕ) → Promised s line space (m s line space .0) (m s line space .1))
-    → ((s : Registers) (line space : List ℕ) → m s line space .0 .refused ≡ 0 → ⊥) → ⊥
+    → (s : Registers) → ((line space : List ℕ) → m s line space .0 .refused ≡ 0 → ⊥) → ⊥

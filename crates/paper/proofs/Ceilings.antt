@@ -22,7 +22,7 @@ use Rattle.paper.specs.Ceilings.{ceiling, Ceilings}
 
 -- ── a verdict's strings are among those of its checks ──
 
-cost-append : (a b : List Str) → cost (a ++ b) ≡ cost a + cost b
+pub cost-append : (a b : List Str) → cost (a ++ b) ≡ cost a + cost b
 cost-append [] b = omega arith
 cost-append (s ∷ a) b = omega (arith, cost-append a b)
 

@@ -1,13 +1,14 @@
 -- What a verdict says: its number is the first that applies, and the strings of every check that it comes to are formed.
-use mathlib.Core.Path.{_≡_, refl}
+use mathlib.Core.Path.{_≡_, refl, ap, _∙_}
 use mathlib.Core.Bool.{Bool, true, false}
 use mathlib.Core.List.{List, [], _∷_, _++_, List·Memᴰ, Memᴰ·append-left, Memᴰ·append-right}
+use mathlib.Core.Logic.{_⊎_, inl, inr}
 use Prim.Native.Nat.{ℕ}
 use Rattle.seqs.specs.Choose.{pick}
 use Rattle.paper.specs.declared.Registers.{Registers}
 use Rattle.paper.specs.Strings.{Dig, Str}
 use Rattle.paper.specs.Requests.{Request}
-use Rattle.paper.specs.Refusals.{Check, applies, formedAt, Verdict, refused, passed, judge}
+use Rattle.paper.specs.Refusals.{Check, applies, formedAt, Verdict, refused, passed, judge, Passed, FirstToApply}
 use Rattle.paper.specs.Answers.{answer}
 use Rattle.paper.specs.Module.{told}
 
@@ -48,11 +49,6 @@ stays x (n ∷ ns) fs cs m =
     let here = Memᴰ·append-right (formedAt n cs) m in
     stays-step x (applies n cs) n (formedAt n cs ++ fs) (judge ns (formedAt n cs ++ fs) cs) here (stays x ns (formedAt n cs ++ fs) cs here)
 
--- the checks of some numbers are passed
-abbrev pub Passed : List ℕ → List Check → Type 0
-Passed [] cs = Unit {0}
-Passed (n ∷ ns) cs = (applies n cs ≡ false) × Passed ns cs
-
 pub split-passed : (ns rest : List ℕ) (cs : List Check) → Passed (ns ++ rest) cs → Passed ns cs × Passed rest cs
 split-passed [] rest cs h = (tt, h)
 split-passed (n ∷ ns) rest cs h = let w = split-passed ns rest cs (h .1) in ((h .0, w .0), w .1)
@@ -69,3 +65,32 @@ reached x (i ∷ ns) n rest fs cs h m = rw (h .0) (reached x ns n rest (formedAt
 pub passed-number : (ns rest : List ℕ) (cs : List Check) → Passed ns cs → firstOf (ns ++ rest) cs ≡ firstOf rest cs
 passed-number [] rest cs h = refl
 passed-number (n ∷ ns) rest cs h = rw (h .0) (passed-number ns rest cs (h .1))
+
+-- the number is that of the first check to apply, and where none applies it is 0
+first-step : (n : ℕ) (ns : List ℕ) (cs : List Check) (b : Bool) → applies n cs ≡ b → (m : ℕ)
+    → (Passed ns cs × (m ≡ 0)) ⊎ FirstToApply ns cs m
+    → (Passed (n ∷ ns) cs × (pick b n m ≡ 0)) ⊎ FirstToApply (n ∷ ns) cs (pick b n m)
+first-step n ns cs true e m h =
+    inr (record { before = []; behind = ns; in-order = refl; here = e; none-before = tt })
+first-step n ns cs false e m (inl p) = inl ((e, p .0), p .1)
+first-step n ns cs false e m (inr f) =
+    inr (record {
+      before = n ∷ f .before;
+      behind = f .behind;
+      in-order = ap (λ (l : List ℕ). n ∷ l) (f .in-order);
+      here = f .here;
+      none-before = (e, f .none-before);
+    })
+
+pub first-given : (ns : List ℕ) (cs : List Check) → (Passed ns cs × (firstOf ns cs ≡ 0)) ⊎ FirstToApply ns cs (firstOf ns cs)
+first-given [] cs = inl (tt, refl)
+first-given (n ∷ ns) cs = first-step n ns cs (applies n cs) refl (firstOf ns cs) (first-given ns cs)
+
+-- and no other number is
+pub first-only : (ns : List ℕ) (cs : List Check) (n : ℕ) → FirstToApply ns cs n → firstOf ns cs ≡ n
+first-only ns cs n f =
+    ap (λ (l : List ℕ). firstOf l cs) (f .in-order) ∙ passed-number (f .before) (n ∷ f .behind) cs (f .none-before) ∙ rw (f .here) refl
+
+pub passed-none : (ns : List ℕ) (cs : List Check) → Passed ns cs → firstOf ns cs ≡ 0
+passed-none [] cs h = refl
+passed-none (n ∷ ns) cs h = rw (h .0) (passed-none ns cs (h .1))

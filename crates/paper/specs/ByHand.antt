@@ -6,13 +6,15 @@ use mathlib.Core.List.{List, [], _∷_, _++_}
 use Prim.Native.Nat.{ℕ, _+_, _*_}
 use lib.ListN.{length, getD, replicate}
 use Rattle.sha256.specs.Padding.{blocks}
-use Rattle.hex.specs.Hex.{digitsOf}
+use Rattle.seqs.specs.Bytes.{allZero}
+use Rattle.hex.specs.Hex.{allDigits, bytesOf, digitsOf}
 use Rattle.paper.specs.declared.Record.{Record}
 use Rattle.paper.specs.declared.Registers.{Registers}
-use Rattle.paper.specs.Strings.{Dig, nought, Str, leaf, node, entry, memo, u1, v1, u2, ei, lengthOf, malformed, inGap, recordHash, H}
-use Rattle.paper.specs.Requests.{kindOf, fits}
-use Rattle.paper.specs.Refusals.{roomFor, replyRoom, isHex}
-use Rattle.paper.specs.Module.{answerTo, replyLine}
+use Rattle.paper.specs.Strings.{Dig, nought, Str, leaf, node, entry, memo, u1, v1, u2, ei, lengthOf, cost, malformed, inGap, recordHash, H}
+use Rattle.paper.specs.Requests.{path, kindOf}
+use Rattle.paper.specs.Refusals.{roomFor, replyRoom}
+use Rattle.paper.specs.Answers.{answer}
+use Rattle.paper.specs.Module.{unopened, answerTo, replyLine}
 
 abbrev four : (revision mass offset rigging : ℕ) → Record
 four a b c d =
@@ -31,12 +33,7 @@ pub data Row : Type 0 where
   bad : Record → (is : Bool) → Row
   count : (bytes : ℕ) → (many : ℕ) → Row
   bytes : Str → (long : ℕ) → Row
-  pathCost : (levels : ℕ) → (many : ℕ) → Row
   space : (room : ℕ) → (short : Bool) → Row
-
--- two folds of a path whose every level forms a node, and its U1
-abbrev pathBlocks : ℕ → ℕ
-pathBlocks n = 2 * n * blocks 65 + blocks 161
 
 abbrev pub Says : (D : List ℕ → Dig) → Row → Type 0
 Says D (gap A A′ q lies) = inGap q A A′ ≡ lies
@@ -45,7 +42,6 @@ Says D (hash r d) = recordHash D r ≡ d
 Says D (bad r is) = malformed r ≡ is
 Says D (count n k) = blocks n ≡ k
 Says D (bytes s n) = lengthOf s ≡ n
-Says D (pathCost n k) = pathBlocks n ≡ k
 Says D (space n short) = roomFor replyRoom n .fails ≡ short
 
 -- the table, for any u
@@ -74,8 +70,6 @@ table u =
     ∷ count 65 2
     ∷ count 161 3
     ∷ count 225 4
-    -- "A path of 64 may cost 259"
-    ∷ pathCost 64 259
     -- "Replies of 194 bytes of space get 15, 195 do."
     ∷ space 194 true
     ∷ space 195 false
@@ -93,14 +87,23 @@ abbrev pub EveryRow : (D : List ℕ → Dig) → List Row → Type 0
 EveryRow D [] = Unit {0}
 EveryRow D (r ∷ l) = Says D r × EveryRow D l
 
+-- "A path of 64 may cost 259": it does where no digest and no sibling is zero, whatever the sides
+abbrev pub NoneZero : List Dig → Type 0
+NoneZero [] = Unit {0}
+NoneZero (d ∷ l) = (allZero d ≡ false) × NoneZero l
+
+abbrev pub PathOf64 : (D : List ℕ → Dig) → Type 0
+PathOf64 D = ((m : List ℕ) → allZero (D m) ≡ false)
+    → (s : Registers) (x x′ : Dig) (sides : ℕ) (l : List Dig) → NoneZero (x ∷ x′ ∷ l) → length l ≡ 64
+    → cost (answer D s (path x x′ sides l) .forms) ≡ 259
+
 -- "n = 65 in a frame of 2,122 bytes gets 3, with all its 65 siblings the line is too long and gets 1"
-pub record EdgesOf65 : Type 0 where
-  pub frame : (f : List ℕ) → kindOf f ≡ 1 → length f ≡ 2122 → getD f 65 0 ≡ 65 → fits f ≡ false
-  pub line : (l : List ℕ) → length l ≡ 2 * (74 + 32 * 65) → isHex l .fails ≡ true
+pub record EdgesOf65 (D : List ℕ → Dig) (s : Registers) (l : List ℕ) : Type 0 where
+  pub gets-3 : allDigits l ≡ true → length l ≡ 2 * 2122 → kindOf (bytesOf l) ≡ 1 → getD (bytesOf l) 65 0 ≡ 65
+      → answerTo D s l replyRoom .refusal ≡ 3
+  pub gets-1 : length l ≡ 2 * (74 + 32 * 65) → answerTo D s l replyRoom .refusal ≡ 1
 
 -- "Whole run, where S is 64 digits of alternating 0 and 1 (0101..01) and Z is 64 digits 0."
-abbrev pub unopened : Registers
-unopened = record { root = nought; counter = record { 0 = 0 }; secret = nought; opened = false }
 
 -- a line in and the line out for it, without its 0A
 pub data Turn : Type 0 where
@@ -137,5 +140,6 @@ Runs D s (turn line reply ∷ l) =
 
 pub record ByHand : Type 1 where
   pub rows : (D : List ℕ → Dig) (u : Dig) → EveryRow D (table u)
-  pub edges : EdgesOf65
-  pub run : (D : List ℕ → Dig) → Runs D unopened wholeRun
+  pub path : (D : List ℕ → Dig) → PathOf64 D
+  pub edges : (D : List ℕ → Dig) (s : Registers) (l : List ℕ) → EdgesOf65 D s l
+  pub run : (D : List ℕ → Dig) → Runs D (unopened nought) wholeRun

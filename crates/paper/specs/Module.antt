@@ -1,12 +1,13 @@
 -- Document 01: the whole answer to a line with its reply space, and the reader's and the writer's refusals.
 use mathlib.Core.List.{List, [], _∷_, _++_}
 use Prim.Native.Nat.{ℕ, _+_, _*_}
+use mathlib.Core.Bool.{false}
 use lib.Dec.{eqb, ltb}
 use lib.ListN.{length, drop}
 use Rattle.seqs.specs.Choose.{pick, either}
 use Rattle.hex.specs.Hex.{bytesOf, lineOf}
 use Rattle.paper.specs.declared.Registers.{Registers}
-use Rattle.paper.specs.Strings.{Dig, Str}
+use Rattle.paper.specs.Strings.{Dig, nought, Str}
 use Rattle.paper.specs.Requests.{Request, kindOf, requestOf}
 use Rattle.paper.specs.Refusals.{Check, order, longestFrame, roomFor, replyRoom, isHex, isKind, isFrame, needs, Verdict, refused, passed, judge}
 use Rattle.paper.specs.Answers.{Effect, none′, answer}
@@ -38,6 +39,10 @@ writeRefusal f space =
 
 -- ── the module ──
 
+-- "Start from an unopened module": root and counter zero, not open; the secret's register may hold anything
+abbrev pub unopened : (secret : Dig) → Registers
+unopened k = record { root = nought; counter = record { 0 = 0 }; secret = k; opened = false }
+
 -- What a request comes to: the number of its refusal or 0, the bytes of its reply, the registers after it, the strings
 -- formed, and what it does beyond its reply.
 pub record Told : Type 0 where
@@ -66,12 +71,16 @@ module _ (D : List ℕ → Dig) where
   unfoldable pub answerFrame : Registers → (frame : List ℕ) → Told
   answerFrame s f = told s (kindOf f) (requestOf f) (judge (drop 2 order) [] (frameChecks f ++ needs D s (requestOf f)))
 
-  -- a line with its reply space
+  -- a line with its reply space: every check that it comes under, then its answer by the first that fails
+  abbrev pub checksOf : Registers → (line : List ℕ) (space : ℕ) → List Check
+  checksOf s line space =
+      let f = bytesOf line in
+      roomFor replyRoom space ∷ isHex line ∷ (frameChecks f ++ needs D s (requestOf f))
+
   unfoldable pub answerTo : Registers → (line : List ℕ) (space : ℕ) → Told
   answerTo s line space =
       let f = bytesOf line in
-      told s (kindOf f) (requestOf f)
-      (judge order [] (roomFor replyRoom space ∷ isHex line ∷ (frameChecks f ++ needs D s (requestOf f))))
+      told s (kindOf f) (requestOf f) (judge order [] (checksOf s line space))
 
 -- the reply's line, with its 0A; of 15 "nothing written"
 abbrev pub replyLine : Told → List ℕ

@@ -1,4 +1,5 @@
 -- Document 01, "Refusals by number, and their order", and the column "needs" of its table of kinds.
+use mathlib.Core.Path.{_≡_}
 use mathlib.Core.Bool.{Bool, true, false}
 use mathlib.Core.List.{List, [], _∷_, _++_}
 use Prim.Native.Nat.{ℕ, _+_, _-_, _*_, _%_, _^_}
@@ -221,3 +222,18 @@ pub data Verdict : Type 0 where
 abbrev pub judge : (numbers : List ℕ) → List Str → List Check → Verdict
 judge [] fs cs = passed fs
 judge (n ∷ ns) fs cs = pick (applies n cs) (refused n (formedAt n cs ++ fs)) (judge ns (formedAt n cs ++ fs) cs)
+
+-- ── what a verdict's number says ──
+
+-- none of some numbers applies
+abbrev pub Passed : List ℕ → List Check → Type 0
+Passed [] cs = Unit {0}
+Passed (n ∷ ns) cs = (applies n cs ≡ false) × Passed ns cs
+
+-- "the first to apply": n is one of the numbers, it applies, and none before it does
+pub record FirstToApply (numbers : List ℕ) (cs : List Check) (n : ℕ) : Type 0 where
+  pub before : List ℕ
+  pub behind : List ℕ
+  pub in-order : numbers ≡ before ++ (n ∷ behind)
+  pub here : applies n cs ≡ true
+  pub none-before : Passed before cs

@@ -10,9 +10,9 @@ use Rattle.seqs.specs.Choose.{pick, both, either, opposite, both-true}
 use Rattle.paper.specs.declared.Registers.{Registers}
 use Rattle.paper.specs.Strings.{Dig, Str}
 use Rattle.paper.specs.Requests.{Request}
-use Rattle.paper.specs.Refusals.{Check, those, anyFails, formsAll, applies, formedAt, passed, judge}
+use Rattle.paper.specs.Refusals.{Check, those, anyFails, formsAll, applies, formedAt, passed, judge, Passed}
 use Rattle.paper.specs.Module.{Told, told}
-use Rattle.paper.proofs.Verdicts.{firstOf, number-is, Passed}
+use Rattle.paper.proofs.Verdicts.{firstOf, number-is}
 
 -- none of some checks fails
 abbrev pub NoneFails : List Check → Type 0

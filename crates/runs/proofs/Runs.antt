@@ -18,10 +18,10 @@ use Rattle.paper.specs.declared.Registers.{Registers}
 use Rattle.paper.specs.Strings.{Dig, Str, digest}
 use Rattle.paper.specs.Requests as Q
 use Rattle.paper.specs.Requests.{Request, kindOf, requestOf}
-use Rattle.paper.specs.Refusals.{Check, top, needs, Verdict, refused, passed, judge}
+use Rattle.paper.specs.Refusals.{Check, top, needs, Verdict, refused, passed, judge, Passed}
 use Rattle.paper.specs.Answers.{none′, answer}
 use Rattle.paper.specs.Module.{Told, told}
-use Rattle.paper.proofs.Verdicts.{formedBy, Passed}
+use Rattle.paper.proofs.Verdicts.{formedBy}
 use Rattle.rings.specs.Trees.{empty}
 use Rattle.rings.proofs.Nodes.{Fault}
 use Rattle.paper.specs.Collisions.{Collision}

@@ -6,10 +6,10 @@ use Rattle.seqs.specs.Choose.{pick, either}
 use Rattle.seqs.specs.Bytes.{same}
 use Rattle.paper.specs.declared.Record.{Record}
 use Rattle.paper.specs.declared.Registers.{Registers}
-use Rattle.paper.specs.Strings.{Dig, nought, Str, memo, digest}
+use Rattle.paper.specs.Strings.{Dig, Str, memo, digest}
 use Rattle.paper.specs.Answers as Does
 use Rattle.paper.specs.Answers.{Change, Effect, none′, issues, adopts, changes}
-use Rattle.paper.specs.Module.{Told, answerTo}
+use Rattle.paper.specs.Module.{unopened, Told, answerTo}
 use Rattle.rings.specs.Lists.{Item, putRecord}
 use Rattle.rings.specs.Changes.{Step, insertion, removal, doSteps, reversed}
 
@@ -17,10 +17,6 @@ use Rattle.rings.specs.Changes.{Step, insertion, removal, doSteps, reversed}
 pub record Turn : Type 0 where
   pub line : List ℕ
   pub space : ℕ
-
--- "Start from an unopened module": root and counter zero, not open; the secret's register may hold anything
-abbrev pub unopened : (secret : Dig) → Registers
-unopened k = record { root = nought; counter = record { 0 = 0 }; secret = k; opened = false }
 
 -- ── replay ──
 

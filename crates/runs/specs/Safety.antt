@@ -14,10 +14,11 @@ use Rattle.paper.specs.Strings.{Dig, blank, inGap, recordHash}
 use Rattle.paper.specs.Requests.{Request, path, witness, join, pair, raise, swap, first, place, turn, chain, adopt, setTo, clear, ask, askNone, unlock, kindOf, requestOf}
 use Rattle.paper.specs.Refusals.{clearedRecord}
 use Rattle.paper.specs.Answers.{Effect, none′, issues, adopts, changes, findingOf, answer}
+use Rattle.paper.specs.Module.{unopened}
 use Rattle.rings.specs.Trees.{Tree, points, leaves, hashOf, Permuted}
 use Rattle.rings.specs.Lists.{Ascending, Listed, Unlisted, ring}
 use Rattle.rings.specs.Changes.{LegalSteps}
-use Rattle.runs.specs.Run.{Turn, unopened, Items, standsFor, World, toldAt, after}
+use Rattle.runs.specs.Run.{Turn, Items, standsFor, World, toldAt, after}
 use Rattle.runs.specs.Endings.{Ending}
 
 module _ (D : List ℕ → Dig) where

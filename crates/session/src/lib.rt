@@ -7,7 +7,8 @@ use pieces::Cut;
 ghost use mathlib.Core.Path.{_≡_};
 ghost use Prim.Native.Nat.{_≤_, min};
 ghost use lib.ListN.{length, take};
-ghost use Rattle.paper.specs.ByHand.{unopened};
+ghost use Rattle.paper.specs.Strings.{nought};
+ghost use Rattle.paper.specs.Module.{unopened};
 ghost use Rattle.session.specs.Serving.{servedOf, lastReply, ServedAs, RepliedAs, FinishedAs};
 
 // Where serving a piece came to: the registers, the place in the piece where the rest begins, how many bytes are held
@@ -21,7 +22,7 @@ pub struct Served {
 
 // The registers of a module that nobody has opened yet.
 pub fn fresh() -> Registers
-    ensures { λ r. ⌜ r ≡ unopened ⌝ }
+    ensures { λ r. ⌜ r ≡ unopened nought ⌝ }
 {
     Registers {
         root: [0u8; 32],
