@@ -18,7 +18,7 @@ use Rattle.paper.specs.declared.Record.{Record}
 use Rattle.paper.specs.declared.Registers.{Registers}
 use Rattle.paper.specs.Strings.{Dig, nought, u1, Str, leaf, entry, memo, enc, digest, blank, recordForms, recordHash}
 use Rattle.paper.specs.Requests.{Request, setTo, kinds, kindOf, rowOf, part, requestOf}
-use Rattle.paper.specs.Refusals.{Check, order, roomFor, replyRoom, isHex, top, nextRecord, leafOf, leafForms, changeForms, changeSays, needs, applies, formedAt, passed, judge, Passed}
+use Rattle.paper.specs.Refusals.{Check, order, roomFor, replyRoom, isHex, top, nextRecord, leafOf, leafForms, changeForms, changeSays, needs, applies, formedAt, judge, Passed}
 use Rattle.paper.specs.Module.{frameChecks, Told, told, answerTo}
 use Rattle.paper.specs.Collisions.{Collision}
 use Rattle.paper.proofs.Verdicts.{firstOf, number-is, in-told, split-passed, reached, passed-number}

@@ -17,7 +17,7 @@ use Rattle.paper.specs.Strings.{Dig, nought, Str, entry, node, enc, numbers, bl
 use Rattle.rings.specs.Trees.{points, Tree, empty, tip, branch, hashOf}
 use Rattle.rings.specs.Changes.{emptyRecord}
 use Rattle.rings.proofs.Nodes.{Dig-discrete, Within, above, above-right-0, above-left-0, above-node, hash, NodeIn}
-use Rattle.rings.proofs.Records.{hashRecord, Known, known-empty, known-recorded}
+use Rattle.rings.proofs.Records.{Known, known-empty, known-recorded}
 
 -- ── a digest that is 0 ──
 
@@ -93,10 +93,6 @@ node-in D F u v eu ev s n m =
     s (node u v) (rw (zv, zu) (List·Memᴰ·head refl))
 
 module _ (D : List ℕ → Dig) where
-  pub record-hash-is : (r : Record) → recordHash D r ≡ hashRecord (digest D) r
-  unfolding recordHash hashRecord
-  record-hash-is r = refl
-
   pub parent-is : (u v : Dig) → length u ≡ 32 → length v ≡ 32 → H D u v ≡ above (digest D) u v
   unfolding H
   parent-is u v eu ev = go (Dig-discrete v nought) (Dig-discrete u nought)

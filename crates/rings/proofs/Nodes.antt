@@ -92,10 +92,6 @@ module _ (D : Str → Dig) where
     collides : (s t : Str) → s ∈ F → t ∈ F → s ≢ t → D s ≡ D t → Fault F
     vanishes : (s : Str) → s ∈ F → D s ≡ nought → Fault F
 
-  pub fault-more : {F G : List Str} → Within F G → Fault F → Fault G
-  fault-more h (collides s t i j n e) = collides s t (h s i) (h t j) n e
-  fault-more h (vanishes s i e) = vanishes s (h s i) e
-
   pub same-string : {F : List Str} {s t : Str} → s ∈ F → t ∈ F → D s ≡ D t → Fault F ⊎ (s ≡ t)
   same-string {F} {s} {t} i j e = go (Str-discrete s t)
     where

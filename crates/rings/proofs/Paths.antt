@@ -3,8 +3,7 @@
 use mathlib.Core.Bool.{Bool, true, false}
 use mathlib.Core.Path.{_≡_, refl, sym, ap, subst, _∙_}
 use mathlib.Core.List.{List, [], _∷_, _++_, Memᴰ·append-left, Memᴰ·append-right}
-use Prim.Native.Nat.{ℕ, _+_, _*_, _/_, _%_, _^_, _<_}
-use native.Mathlib.Nat.{pow-suc}
+use Prim.Native.Nat.{ℕ, _+_, _*_, _/_, _%_}
 use native.Mathlib.Omega.{arith}
 use lib.Dec.{eqb}
 use lib.ListN.{length}
@@ -50,17 +49,6 @@ carried (right s ∷ p) =
     let e : 2 * sidesOf p % 2 ≡ 0 = omega arith in
     let f : 2 * sidesOf p / 2 ≡ sidesOf p = omega arith in
     rw (e, f, carried p) refl
-
-pub digests-length : (p : List Sibling) → length (digestsOf p) ≡ length p
-digests-length [] = refl
-digests-length (left s ∷ p) = omega (arith, digests-length p)
-digests-length (right s ∷ p) = omega (arith, digests-length p)
-
--- "Bits from n up must be 0"
-pub sides-below : (p : List Sibling) → sidesOf p < 2 ^ length p
-sides-below [] = omega arith
-sides-below (left s ∷ p) = omega (arith, sides-below p, pow-suc 2 (length p))
-sides-below (right s ∷ p) = omega (arith, sides-below p, pow-suc 2 (length p))
 
 -- every sibling has 32 bytes
 abbrev pub AllWide : List Dig → Type 0

@@ -126,9 +126,6 @@ module _ (D : List ℕ → Dig) (s : Registers) (k : ℕ) (q : Request) (ns : Li
   pub accepted-passed : nonzero ns ≡ true → answered .refusal ≡ 0 → Passed ns cs
   accepted-passed z h = number-zero ns cs z (sym (number-is D s k q ns [] cs) ∙ h)
 
-  pub accepted-is : Passed ns cs → answered ≡ told D s k q (passed (formedAll ns [] cs))
-  accepted-is h = ap (told D s k q) (judge-passed ns [] cs h)
-
 -- ── strings formed ──
 
 in-forms : (x : Str) (c : Check) (cs : List Check) → List·Memᴰ c cs → List·Memᴰ x (c .forms) → List·Memᴰ x (formsAll cs)

@@ -3,7 +3,7 @@
 use mathlib.Core.Path.{_≡_, refl, sym, ap, ap₂, subst, _∙_}
 use mathlib.Core.Bool.{Bool, true, false, true≢false}
 use mathlib.Core.List.{List, [], _∷_, _++_}
-use mathlib.Core.Logic.{_⊎_, inl, inr, _≢_}
+use mathlib.Core.Logic.{_≢_}
 use Prim.Native.Nat.{ℕ, _+_, _≤_, _<_}
 use native.Mathlib.Decide.{decLt}
 use native.Mathlib.Omega.{arith}
@@ -43,10 +43,6 @@ rise-two D f X Y =
     ∙ rise-plug D (f .above) (branch (plug (f .left) X) (plug (f .right) Y))
 
 -- ── found by a test ──
-
-either-cases : (a b : Bool) → either a b ≡ true → (a ≡ true) ⊎ ((a ≡ false) × (b ≡ true))
-either-cases true b h = inl refl
-either-cases false b h = inr (refl, h)
 
 module _ (p : Leaf → Bool) where
   -- a leaf that occurs and passes

@@ -37,7 +37,3 @@ both-no false = refl
 pub either-yes : (p : Bool) → either p true ≡ true
 either-yes true = refl
 either-yes false = refl
-
-pub either-no : (p : Bool) → either p false ≡ p
-either-no true = refl
-either-no false = refl

@@ -8,7 +8,7 @@ use native.Mathlib.Numerals.{add-one}
 use native.Mathlib.Omega.{arith}
 use borrow.Author.Tests.{le-leb, lt-leb}
 use lib.Dec.{leb}
-use lib.ListN.{length, getD, take, drop, set, length-append, length-take, length-drop}
+use lib.ListN.{length, getD, take, drop, set, length-append, length-drop}
 use lib.Seq.{take-all, take-at, drop-append-add, drop-drop}
 use Rattle.seqs.specs.Choose.{pick}
 
@@ -33,9 +33,6 @@ module _ {ℓ} {A : Type ℓ} where
   -- after the last turn
   pub over-all : (n : ℕ) (l d : List A) → length l ≡ n → over n l d ≡ l ++ drop n d
   over-all n l d h = rw (take-all n l (omega arith))
-
-  pub over-length : (n : ℕ) (l d : List A) → n ≤ length l → n ≤ length d → length (over n l d) ≡ length d
-  over-length n l d h k = simp (length-append, length-take, length-drop) (omega arith)
 
   -- a buffer over whose front a list is to be written: it is, where it fits, and else nothing is
   unfoldable pub written : List A → List A → List A
