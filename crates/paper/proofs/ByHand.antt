@@ -6,7 +6,7 @@ use Prim.Native.Nat.{ℕ, _*_, _/_, _%_}
 use native.Mathlib.Omega.{arith}
 use lib.Dec.{eqb}
 use lib.ListN.{length}
-use Rattle.seqs.specs.Choose.{pick}
+use Rattle.seqs.specs.Choose.{pick, _and_}
 use Rattle.seqs.specs.Bytes.{be64, allZero}
 use Rattle.hex.specs.Hex.{isDigit, valueOf, digitOf, lineOf, bytesOf}
 use Rattle.hex.proofs.Laws.{bytes-length}
@@ -18,11 +18,6 @@ use Rattle.paper.proofs.Frames.{fits-path}
 use Rattle.paper.proofs.Ceilings.{cost-append}
 use Rattle.paper.proofs.Early.{none-early}
 use Rattle.paper.specs.ByHand.{ByHand, NoneZero, PathOf64, EdgesOf65, EveryRow, table, Runs, wholeRun}
-
-infixr 30 _and_
--- one row shown, and then the others
-_and_ : {A B : Type 0} → A → B → A × B
-a and b = (a, b)
 
 rows : (D : List ℕ → Dig) (u : Dig) → EveryRow D (table u)
 unfolding inGap H recordHash malformed

@@ -42,7 +42,8 @@ judged (n ∷ ns) fs cs =
     let e = cost-append (formedAt n cs) fs in
     let r = judged ns (formedAt n cs ++ fs) cs in
     let m : ℕ = cost (formedAt n cs) + cost fs in
-    let s = judged-step (applies n cs) n (formedAt n cs ++ fs) (judge ns (formedAt n cs ++ fs) cs) m (all ns cs) (omega arith) (omega arith) in
+    let s = judged-step (applies n cs) n (formedAt n cs ++ fs) (judge ns (formedAt n cs ++ fs) cs) m (all ns cs)
+    (omega arith) (omega arith) in
     omega arith
 
 module _ (D : List ℕ → Dig) where
@@ -110,8 +111,13 @@ module _ (D : List ℕ → Dig) where
       → cost (first-memo D s (changeForms D A A′ old new) (changeSays D A A′ old new y y′ ∷ []) m .forms) ≤ 6 + n
   changed s A A′ old new y y′ m n h =
       let t : Memo = changeSays D A A′ old new y y′ in
-      omega
-      (arith, cost-append (changeForms D A A′ old new) (tried D (s .secret) (t ∷ []) m), change-cost A A′ old new, record-cost old, one (s .secret) t m)
+      omega (
+        arith,
+        cost-append (changeForms D A A′ old new) (tried D (s .secret) (t ∷ []) m),
+        change-cost A A′ old new,
+        record-cost old,
+        one (s .secret) t m,
+      )
 
   rows : (s : Registers) (q : Request) → cost (answer D s q .forms) + all order (needs D s q) ≤ ceiling q
   rows s (Q.path x x′ sides l) =
@@ -121,8 +127,14 @@ module _ (D : List ℕ → Dig) where
   rows s (Q.join x y x′ y′ m1 z z′ m2) =
       omega (arith, one (s .secret) (u1 x y x′ y′) m1, one (s .secret) (u1 y z y′ z′) m2)
   rows s (Q.pair x1 y x1′ y′ m1 x2 z x2′ z′ m2) =
-      omega
-      (arith, one (s .secret) (u1 x1 y x1′ y′) m1, one (s .secret) (u1 x2 z x2′ z′) m2, cost-append (parentForms y′ z′) (parentForms y z), parent-cost y′ z′, parent-cost y z)
+      omega (
+        arith,
+        one (s .secret) (u1 x1 y x1′ y′) m1,
+        one (s .secret) (u1 x2 z x2′ z′) m2,
+        cost-append (parentForms y′ z′) (parentForms y z),
+        parent-cost y′ z′,
+        parent-cost y z,
+      )
   rows s (Q.raise x1 x2 y x1′ x2′ y′ m1 z z′ m2) =
       omega (arith, one (s .secret) (u2 x1 x2 y x1′ x2′ y′) m1, one (s .secret) (u1 y z y′ z′) m2)
   rows s (Q.swap x1 x2 y y′ m) = omega (arith, one (s .secret) (u2 x1 x2 y x2 x1 y′) m)
@@ -141,8 +153,13 @@ module _ (D : List ℕ → Dig) where
   rows s (Q.clear A A′ old y y′ m) = omega (arith, changed s A A′ old clearedRecord y y′ m 0 cleared-cost)
   rows s (Q.ask q A A′ r y m) =
       let t : Memo = v1 (digest D (leafOf D A A′ r)) y in
-      omega
-      (arith, cost-append (leafForms D A A′ r) (tried D (s .secret) (t ∷ []) m), leaf-cost A A′ r, record-cost r, one (s .secret) t m)
+      omega (
+        arith,
+        cost-append (leafForms D A A′ r) (tried D (s .secret) (t ∷ []) m),
+        leaf-cost A A′ r,
+        record-cost r,
+        one (s .secret) t m,
+      )
   rows s (Q.askNone q) = omega arith
   rows s (Q.unlock k) = omega arith
 
@@ -169,8 +186,13 @@ module _ (D : List ℕ → Dig) where
   frame s f =
       let q = requestOf f in
       let cs : List Check = frameChecks f ++ needs D s q in
-      omega
-      (arith, told-cost s (kindOf f) q (judge (drop 2 order) [] cs), judged (drop 2 order) [] cs, of-frame (drop 2 order) s f, rows s q)
+      omega (
+        arith,
+        told-cost s (kindOf f) q (judge (drop 2 order) [] cs),
+        judged (drop 2 order) [] cs,
+        of-frame (drop 2 order) s f,
+        rows s q,
+      )
 
   line : (s : Registers) (l : List ℕ) (space : ℕ) → cost (answerTo D s l space .formed) ≤ ceiling (requestOf (bytesOf l))
   unfolding answerTo
@@ -180,8 +202,15 @@ module _ (D : List ℕ → Dig) where
       let cs : List Check = frameChecks f ++ needs D s q in
       let hs : List Check = isHex l ∷ cs in
       let ws : List Check = roomFor replyRoom space ∷ hs in
-      omega
-      (arith, told-cost s (kindOf f) q (judge order [] ws), judged order [] ws, formless order (roomFor replyRoom space) hs refl, formless order (isHex l) cs refl, of-frame order s f, rows s q)
+      omega (
+        arith,
+        told-cost s (kindOf f) q (judge order [] ws),
+        judged order [] ws,
+        formless order (roomFor replyRoom space) hs refl,
+        formless order (isHex l) cs refl,
+        of-frame order s f,
+        rows s q,
+      )
 
 pub ceilings : (D : List ℕ → Dig) → Ceilings D
 ceilings D = record { frame = frame D; line = line D }

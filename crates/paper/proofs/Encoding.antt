@@ -30,7 +30,12 @@ cut (d ∷ s) l = dig (take 32 l) ∷ cut s (drop 32 l)
 cut-spread : (fs : List Field) → SoundAll fs → cut (shapes fs) (spread fs) ≡ fs
 cut-spread [] h = refl
 cut-spread (num x ∷ fs) h =
-    rw (take-at (be64 x) (spread fs) 8 (be64-length x), drop-at (be64 x) (spread fs) 8 (be64-length x), number-be64 x (h .0), cut-spread fs (h .1))
+    rw (
+      take-at (be64 x) (spread fs) 8 (be64-length x),
+      drop-at (be64 x) (spread fs) 8 (be64-length x),
+      number-be64 x (h .0),
+      cut-spread fs (h .1),
+    )
 cut-spread (dig x ∷ fs) h =
     rw (take-at x (spread fs) 32 (h .0), drop-at x (spread fs) 32 (h .0), cut-spread fs (h .1))
 
@@ -87,7 +92,8 @@ make (suc (suc (suc (suc zero)))) l =
 make (suc (suc (suc (suc (suc zero))))) l = memo (v1 (digest-of (at 0 l)) (digest-of (at 1 l))) (digest-of (at 2 l))
 make (suc (suc (suc (suc (suc (suc zero)))))) l =
     memo
-    (u2 (digest-of (at 0 l)) (digest-of (at 1 l)) (digest-of (at 2 l)) (digest-of (at 3 l)) (digest-of (at 4 l)) (digest-of (at 5 l)))
+    (u2 (digest-of (at 0 l)) (digest-of (at 1 l)) (digest-of (at 2 l)) (digest-of (at 3 l)) (digest-of (at 4 l))
+    (digest-of (at 5 l)))
     (digest-of (at 6 l))
 make (suc (suc (suc (suc (suc (suc (suc t))))))) l = memo (ei (digest-of (at 0 l)) (digest-of (at 1 l))) (digest-of (at 2 l))
 

@@ -96,6 +96,7 @@ fits-other f h =
     let cs : List Carried = getD kinds (suc i) none-such .carries in
     let r = row (drop 1 kinds) i refl in
     let x = fixed cs (drop 1 f) (r .0) in
-    ap (λ (j : ℕ). both (eqb (length f) (1 + takesAll (getD kinds j none-such .carries) (drop 1 f))) (soundAll (getD kinds j none-such .carries) (drop 1 f))) e1
+    ap (λ (j : ℕ). both (eqb (length f) (1 + takesAll (getD kinds j none-such .carries) (drop 1 f)))
+    (soundAll (getD kinds j none-such .carries) (drop 1 f))) e1
     ∙ ap₂ (λ (m : ℕ) (s : Bool). both (eqb (length f) (1 + m)) s) (x .0) (x .1) ∙ both-right (eqb (length f) (1 + takesAll cs []))
     ∙ ap (eqb (length f)) (r .1 ∙ ap (λ (k : ℕ). getD lengths k 1) (sym e))

@@ -11,7 +11,7 @@ use borrow.Author.Tests.{le-ltb, ne-eqb}
 use lib.Dec.{eqb}
 use lib.ListN.{length, take, drop}
 use lib.Seq.{take-at, drop-at}
-use Rattle.seqs.specs.Choose.{pick, both, either, opposite, both-true}
+use Rattle.seqs.specs.Choose.{pick, both, either, opposite, both-true, _and_}
 use Rattle.seqs.specs.Bytes.{be64, be64-length, numberOf, number-be64, same, same-true}
 use Rattle.hex.specs.Hex.{bytesOf}
 use Rattle.paper.specs.declared.Record.{Record}
@@ -108,7 +108,10 @@ hashes-by true b′ z d d′ e e′ h = absurd (true≢false e)
 hashes-by false true z d d′ e e′ h = absurd (true≢false e′)
 hashes-by false false z d d′ e e′ h = h
 
-module _ (D : List ℕ → Dig) (D32 : (l : List ℕ) → length (D l) ≡ 32) (line : List ℕ) (A A′ : ℕ) (old : Record) (v2 v3 v4 : ℕ) (y y′ m : Dig) (e : requestOf (bytesOf line) ≡ setTo A A′ old v2 v3 v4 y y′ m) where
+module _
+    (D : List ℕ → Dig) (D32 : (l : List ℕ) → length (D l) ≡ 32) (line : List ℕ)
+    (A A′ : ℕ) (old : Record) (v2 v3 v4 : ℕ) (y y′ m : Dig)
+    (e : requestOf (bytesOf line) ≡ setTo A A′ old v2 v3 v4 y y′ m) where
   abbrev q : Request
   q = setTo A A′ old v2 v3 v4 y y′ m
 
@@ -135,7 +138,8 @@ module _ (D : List ℕ → Dig) (D32 : (l : List ℕ) → length (D l) ≡ 32) (
     number : answerTo D r line n .refusal ≡ firstOf order (checks r n)
     number = ap (λ (t : Told). t .refusal) judged ∙ number-is D r kind q order [] (checks r n)
 
-    formed : (x : Str) → Passed before (checks r n) → List·Memᴰ x (formedAt 8 (checks r n)) → List·Memᴰ x (answerTo D r line n .formed)
+    formed : (x : Str) → Passed before (checks r n) → List·Memᴰ x (formedAt 8 (checks r n))
+        → List·Memᴰ x (answerTo D r line n .formed)
     formed x h i =
         rw judged (in-told D r kind q x (judge order [] (checks r n)) (reached x before 8 (9 ∷ 10 ∷ []) [] (checks r n) h i))
 
@@ -155,7 +159,8 @@ module _ (D : List ℕ → Dig) (D32 : (l : List ℕ) → length (D l) ≡ 32) (
     unfolding recordForms
     entry-formed =
         Memᴰ·append-left _
-        (Memᴰ·append-right (leafForms D A A′ old) (Memᴰ·append-left {s = recordForms (new r)} _ (rw not-blank (List·Memᴰ·head refl))))
+        (Memᴰ·append-right (leafForms D A A′ old) (Memᴰ·append-left {s = recordForms (new r)} _
+        (rw not-blank (List·Memᴰ·head refl))))
 
     -- a memorandum that fits is the digest of what it may say
     fitted : applies 8 (checks r n) ≡ false → digest D (says r) ≡ m
@@ -182,19 +187,9 @@ module _ (D : List ℕ → Dig) (D32 : (l : List ℕ) → length (D l) ≡ 32) (
         let p = then-passed .0 .1 in
         let p4 = p .1 .1 .1 .1 .1 .1 in
         let u = L .below in
-        let under = ne-eqb (s .counter .0) top (λ (z : s .counter .0 ≡ top). omega arith) in (
-          rw (le-ltb space replyRoom (L .room)) refl,
-          (
-            p .0,
-            (
-              p .1 .0,
-              (
-                p .1 .1 .0,
-                (rw (L .opened) refl, (refl, (refl, (p4 .0, (p4 .1 .0, (refl, (refl, (rw under refl, tt)))))))),
-              ),
-            ),
-          ),
-        )
+        let under = ne-eqb (s .counter .0) top (λ (z : s .counter .0 ≡ top). omega arith) in
+        rw (le-ltb space replyRoom (L .room)) refl and p .0 and p .1 .0 and p .1 .1 .0 and rw (L .opened) refl and refl
+        and refl and p4 .0 and p4 .1 .0 and refl and refl and rw under refl and tt
 
     formed-then : (x : Str) → List·Memᴰ x (formedAt 8 (checks s₀ space₀)) → List·Memᴰ x fs
     formed-then x i = Memᴰ·append-left _ (formed s₀ space₀ x (then-passed .0) i)
@@ -207,7 +202,8 @@ module _ (D : List ℕ → Dig) (D32 : (l : List ℕ) → length (D l) ≡ 32) (
     records h =
         let o = L .older in
         let u = L .below in
-        or-same D fs (entry (new s₀)) (entry (new s)) (formed-then _ (entry-formed s₀ space₀)) (formed-now _ (entry-formed s space))
+        or-same D fs (entry (new s₀)) (entry (new s)) (formed-then _ (entry-formed s₀ space₀))
+        (formed-now _ (entry-formed s space))
         (hashes-by (blank (new s₀)) (blank (new s)) nought _ _ (not-blank s₀ space₀) (not-blank s space) h)
         (λ b. let n = entry-tells (new s₀) (new s) (omega arith) (omega arith) b in absurd (omega arith))
 
@@ -220,7 +216,8 @@ module _ (D : List ℕ → Dig) (D32 : (l : List ℕ) → length (D l) ≡ 32) (
     memos h =
         let e′ = fitted s₀ space₀ (then-passed .1 .0) ∙ sym (fitted s space h) in
         or-same D fs (says s₀) (says s) (formed-then _ (memo-formed s₀ space₀)) (formed-now _ (memo-formed s space)) e′
-        (λ b. leaves (memo-tells _ y _ _ y′ (s₀ .secret) (D32 _ ∙ sym (D32 _)) (b ∙ ap (λ (k : Dig). enc (memo (changeSays D A A′ old (new s) y y′) k)) (L .secret))))
+        (λ b. leaves (memo-tells _ y _ _ y′ (s₀ .secret) (D32 _ ∙ sym (D32 _))
+        (b ∙ ap (λ (k : Dig). enc (memo (changeSays D A A′ old (new s) y y′) k)) (L .secret))))
 
     gets-8 : (b : Bool) → applies 8 (checks s space) ≡ b → (answerTo D s line space .refusal ≡ 8) ⊎ Collision D fs
     gets-8 true h =

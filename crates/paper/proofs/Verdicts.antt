@@ -31,7 +31,8 @@ module _ (D : List ℕ → Dig) (s : Registers) (k : ℕ) (q : Request) where
   pub number-is : (ns : List ℕ) (fs : List Str) (cs : List Check) → told D s k q (judge ns fs cs) .refusal ≡ firstOf ns cs
   number-is [] fs cs = refl
   number-is (n ∷ ns) fs cs =
-      number-step (applies n cs) n (formedAt n cs ++ fs) (judge ns (formedAt n cs ++ fs) cs) (firstOf ns cs) (number-is ns (formedAt n cs ++ fs) cs)
+      number-step (applies n cs) n (formedAt n cs ++ fs) (judge ns (formedAt n cs ++ fs) cs) (firstOf ns cs)
+      (number-is ns (formedAt n cs ++ fs) cs)
 
   pub in-told : (x : Str) (v : Verdict) → List·Memᴰ x (formedBy v) → List·Memᴰ x (told D s k q v .formed)
   in-told x (refused n fs) m = m
@@ -47,7 +48,8 @@ pub stays : (x : Str) (ns : List ℕ) (fs : List Str) (cs : List Check) → List
 stays x [] fs cs m = m
 stays x (n ∷ ns) fs cs m =
     let here = Memᴰ·append-right (formedAt n cs) m in
-    stays-step x (applies n cs) n (formedAt n cs ++ fs) (judge ns (formedAt n cs ++ fs) cs) here (stays x ns (formedAt n cs ++ fs) cs here)
+    stays-step x (applies n cs) n (formedAt n cs ++ fs) (judge ns (formedAt n cs ++ fs) cs) here
+    (stays x ns (formedAt n cs ++ fs) cs here)
 
 pub split-passed : (ns rest : List ℕ) (cs : List Check) → Passed (ns ++ rest) cs → Passed ns cs × Passed rest cs
 split-passed [] rest cs h = (tt, h)
@@ -58,7 +60,8 @@ pub reached : (x : Str) (ns : List ℕ) (n : ℕ) (rest : List ℕ) (fs : List S
     → List·Memᴰ x (formedAt n cs) → List·Memᴰ x (formedBy (judge (ns ++ (n ∷ rest)) fs cs))
 reached x [] n rest fs cs h m =
     let here = Memᴰ·append-left fs m in
-    stays-step x (applies n cs) n (formedAt n cs ++ fs) (judge rest (formedAt n cs ++ fs) cs) here (stays x rest (formedAt n cs ++ fs) cs here)
+    stays-step x (applies n cs) n (formedAt n cs ++ fs) (judge rest (formedAt n cs ++ fs) cs) here
+    (stays x rest (formedAt n cs ++ fs) cs here)
 reached x (i ∷ ns) n rest fs cs h m = rw (h .0) (reached x ns n rest (formedAt i cs ++ fs) cs (h .1) m)
 
 -- the number is a later one's
@@ -89,7 +92,8 @@ first-given (n ∷ ns) cs = first-step n ns cs (applies n cs) refl (firstOf ns c
 -- and no other number is
 pub first-only : (ns : List ℕ) (cs : List Check) (n : ℕ) → FirstToApply ns cs n → firstOf ns cs ≡ n
 first-only ns cs n f =
-    ap (λ (l : List ℕ). firstOf l cs) (f .in-order) ∙ passed-number (f .before) (n ∷ f .behind) cs (f .none-before) ∙ rw (f .here) refl
+    ap (λ (l : List ℕ). firstOf l cs) (f .in-order) ∙ passed-number (f .before) (n ∷ f .behind) cs (f .none-before) ∙ rw
+    (f .here) refl
 
 pub passed-none : (ns : List ℕ) (cs : List Check) → Passed ns cs → firstOf ns cs ≡ 0
 passed-none [] cs h = refl

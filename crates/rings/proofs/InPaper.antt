@@ -106,7 +106,8 @@ module _ (D : List ℕ → Dig) (D32 : (l : List ℕ) → length (D l) ≡ 32) (
       go (L.ask digestD A A′ r T ls (known A A′ r w i) (formed A A′ r i) u (sym (hash-is D D32 T) ∙ e) g)
     where
       go : Fault digestD F
-          ⊎ (Listed A r ls × ((q : ℕ) → Gap A A′ q → Unlisted q ls) × List·Memᴰ (points A A′ (hashRecord digestD r)) (ring (hashRecord digestD) ls))
+          ⊎ (Listed A r ls × ((q : ℕ) → Gap A A′ q → Unlisted q ls) × List·Memᴰ (points A A′ (hashRecord digestD r))
+          (ring (hashRecord digestD) ls))
           → Fault digestD F ⊎ Found A A′ r ls
       go (inl f) = inl f
       go (inr t) = inr (t .0, (λ q k. t .1 q (gap-holds q A A′ k)), t .2)

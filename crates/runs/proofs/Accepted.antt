@@ -32,7 +32,8 @@ numbered ns (c ∷ cs) = both (among (c .number) ns) (numbered ns cs)
 -- ── a check in its list ──
 
 in-those : (c : Check) (cs : List Check) → List·Memᴰ c cs → List·Memᴰ c (those (c .number) cs)
-in-those c (d ∷ cs) (List·Memᴰ·head e) = at-head (eqb (d .number) (c .number)) (eq-eqb _ _ (ap (λ (x : Check). x .number) (sym e)))
+in-those c (d ∷ cs) (List·Memᴰ·head e) = at-head (eqb (d .number) (c .number))
+    (eq-eqb _ _ (ap (λ (x : Check). x .number) (sym e)))
   where
     at-head : (b : Bool) → b ≡ true → List·Memᴰ c (pick b (d ∷ those (c .number) cs) (those (c .number) cs))
     at-head true h = List·Memᴰ·head e

@@ -53,7 +53,8 @@ module _ (D : List ℕ → Dig) where
   book-add (j ∷ b) i h e = (h .0, book-add b i (h .1) e)
 
   -- an entry more, or none, whichever way the book is read
-  pub book-enter : {F : List Str} (by : Reading) (b : List Issue) (i : Issue) → Book F b → Backed F i → Book F (entered by b (i ∷ []))
+  pub book-enter : {F : List Str} (by : Reading) (b : List Issue) (i : Issue) → Book F b → Backed F i
+      → Book F (entered by b (i ∷ []))
   book-enter earliest b i h e = book-add b i h e
   book-enter last b i h e = (e, h)
 
@@ -70,7 +71,8 @@ module _ (D : List ℕ → Dig) where
           found : Fault (digest D) F ⊎ (memo (h .0 .says) (h .0 .key) ≡ memo t k)
               → (Fault (digest D) F ⊎ (true ≡ false)) ⊎ Means (digest D) F t (j .does)
           found (inl f) = inl (inl f)
-          found (inr q) = inr (subst (λ (u : Memo). Means (digest D) F u (j .does)) (ap (λ (s : Str). says-of s t) q) (h .0 .means))
+          found (inr q) = inr (subst (λ (u : Memo). Means (digest D) F u (j .does)) (ap (λ (s : Str). says-of s t) q)
+              (h .0 .means))
 
       here : (c : Bool) → same (j .memorandum) m ≡ c
           → (Fault (digest D) F ⊎ (isIssued m b ≡ false)) ⊎ Means (digest D) F t (standsFor m b)

@@ -176,7 +176,8 @@ module _ (D : List ℕ → Dig) (D32 : (l : List ℕ) → length (D l) ≡ 32) (
     fits-two t t′ m h = by-test (same (dig (memo t key)) m) refl h
       where
         by-test : (b : Bool) → same (dig (memo t key)) m ≡ b → pick b false (noneFits D key (t′ ∷ []) m) ≡ false
-            → (dig (memo t key) ≡ m) ⊎ ((dig (memo t′ key) ≡ m) × (memo t′ key ∈ (memo t key ∷ pick b [] (tried D key (t′ ∷ []) m))))
+            → (dig (memo t key) ≡ m) ⊎ ((dig (memo t′ key) ≡ m) ×
+            (memo t′ key ∈ (memo t key ∷ pick b [] (tried D key (t′ ∷ []) m))))
         by-test true e h = inl (same-true (dig (memo t key)) m e)
         by-test false e h = inr (fits-one t′ m h, at1)
 
@@ -189,7 +190,8 @@ module _ (D : List ℕ → Dig) (D32 : (l : List ℕ) → length (D l) ≡ 32) (
 
     pub place : (A A′ B′ : ℕ) (ω y y′ m : Dig) → Given (Q.place A A′ B′ ω y y′ m)
         → Or (Q.place A A′ B′ ω y y′ m) (Means dig G (ei y y′) (removal A′ ∷ []))
-    place A A′ B′ ω y y′ m g = by-order (fits-two (placed A A′ B′ ω y y′) (flipped A A′ B′ ω y y′) m (g .none-fails .1 .1 .1 .1 .1 .0))
+    place A A′ B′ ω y y′ m g = by-order (fits-two (placed A A′ B′ ω y y′) (flipped A A′ B′ ω y y′) m
+        (g .none-fails .1 .1 .1 .1 .1 .0))
       where
         forms : Within (placeForms A A′ B′ ω ++ tried D key (placeSays D A A′ B′ ω y y′) m) G
         forms = g .of-check _ (List·Memᴰ·tail (List·Memᴰ·tail (List·Memᴰ·tail at2)))
@@ -204,7 +206,8 @@ module _ (D : List ℕ → Dig) (D32 : (l : List ℕ) → length (D l) ≡ 32) (
         in-gap = opposite-false (inGap A′ A B′) (g .none-fails .1 .1 .1 .1 .0)
 
         by-order : (dig (memo (placed A A′ B′ ω y y′) key) ≡ m)
-            ⊎ ((dig (memo (flipped A A′ B′ ω y y′) key) ≡ m) × (memo (flipped A A′ B′ ω y y′) key ∈ tried D key (placeSays D A A′ B′ ω y y′) m))
+            ⊎ ((dig (memo (flipped A A′ B′ ω y y′) key) ≡ m) ×
+            (memo (flipped A A′ B′ ω y y′) key ∈ tried D key (placeSays D A A′ B′ ω y y′) m))
             → Or (Q.place A A′ B′ ω y y′ m) (Means dig G (ei y y′) (removal A′ ∷ []))
         by-order (inl e) = do
           a ← taken (Q.place A A′ B′ ω y y′ m) (placed A A′ B′ ω y y′) m b at0 (tries _ at0) e
@@ -220,7 +223,8 @@ module _ (D : List ℕ → Dig) (D32 : (l : List ℕ) → length (D l) ≡ 32) (
       at-root : (y : Dig) → opposite (same y (s .root)) ≡ false → hashOf D T₀ ≡ y
       at-root y h = root ∙ sym (same-true y (s .root) (opposite-false (same y (s .root)) h))
 
-      pub adopt : (y y′ m : Dig) → Given (Q.adopt y y′ m) → Or (Q.adopt y y′ m) (Moved dig G y′ (standsFor m (w .book)) (w .items))
+      pub adopt : (y y′ m : Dig) → Given (Q.adopt y y′ m)
+          → Or (Q.adopt y y′ m) (Moved dig G y′ (standsFor m (w .book)) (w .items))
       adopt y y′ m g = do
         a ← taken (Q.adopt y y′ m) (ei y y′) m b at0 (g .of-check _ at1 _ at0) (fits-one (ei y y′) m (g .none-fails .1 .0))
         lift (Q.adopt y y′ m) (P.adopt D D32 G T₀ (w .items) a (at-root y (g .none-fails .1 .1 .0)) stands)
@@ -248,23 +252,28 @@ module _ (D : List ℕ → Dig) (D32 : (l : List ℕ) → length (D l) ≡ 32) (
       set-record A A′ old v2 v3 v4 y y′ m g =
           let h = g .none-fails .1 .1 .1 in
           change (Q.setTo A A′ old v2 v3 v4 y y′ m) A A′ old (nextRecord s v2 v3 v4) y y′ m at0
-          (g .of-check _ (List·Memᴰ·tail (List·Memᴰ·tail (List·Memᴰ·tail at2)))) (h .0) (next-sound v2 v3 v4) (h .1 .1 .0) (h .1 .1 .1 .0)
+          (g .of-check _ (List·Memᴰ·tail (List·Memᴰ·tail (List·Memᴰ·tail at2)))) (h .0) (next-sound v2 v3 v4) (h .1 .1 .0)
+          (h .1 .1 .1 .0)
 
       pub clear : (A A′ : ℕ) (old : Record) (y y′ m : Dig) → Given (Q.clear A A′ old y y′ m)
           → Or (Q.clear A A′ old y y′ m) (L.Put dig G y′ A old clearedRecord (w .items))
       clear A A′ old y y′ m g =
           let h = g .none-fails .1 .1 .1 in
           change (Q.clear A A′ old y y′ m) A A′ old clearedRecord y y′ m at0
-          (g .of-check _ (List·Memᴰ·tail (List·Memᴰ·tail (List·Memᴰ·tail (List·Memᴰ·tail at2))))) (h .0) cleared-sound (h .1 .1 .1 .0) (h .1 .1 .1 .1 .0)
+          (g .of-check _ (List·Memᴰ·tail (List·Memᴰ·tail (List·Memᴰ·tail (List·Memᴰ·tail at2))))) (h .0) cleared-sound
+          (h .1 .1 .1 .0) (h .1 .1 .1 .1 .0)
 
       pub ask : (q A A′ : ℕ) (r : Record) (y m : Dig) → Given (Q.ask q A A′ r y m)
           → Or (Q.ask q A A′ r y m) (P.Found D D32 G A A′ r (w .items))
       ask q A A′ r y m g = do
         let h = g .none-fails .1 .1 .1 .1
         let t = v1 (dig (leafOf D A A′ r)) y
-        let forms : Within (leafForms D A A′ r ++ tried D key (t ∷ []) m) G = g .of-check _ (List·Memᴰ·tail (List·Memᴰ·tail (List·Memᴰ·tail (List·Memᴰ·tail at2))))
-        a ← taken (Q.ask q A A′ r y m) t m b at0 (forms _ (Memᴰ·append-right (leafForms D A A′ r) at0)) (fits-one t m (h .1 .1 .0))
-        lift (Q.ask q A A′ r y m) (P.ask D D32 G A A′ r T₀ (w .items) (h .0) (λ x i. forms x (Memᴰ·append-left _ i)) a (at-root y (h .1 .1 .1 .0)) stands)
+        let forms : Within (leafForms D A A′ r ++ tried D key (t ∷ []) m) G = g .of-check _
+            (List·Memᴰ·tail (List·Memᴰ·tail (List·Memᴰ·tail (List·Memᴰ·tail at2))))
+        a ← taken (Q.ask q A A′ r y m) t m b at0 (forms _ (Memᴰ·append-right (leafForms D A A′ r) at0))
+            (fits-one t m (h .1 .1 .0))
+        lift (Q.ask q A A′ r y m) (P.ask D D32 G A A′ r T₀ (w .items) (h .0) (λ x i. forms x (Memᴰ·append-left _ i)) a
+            (at-root y (h .1 .1 .1 .0)) stands)
 
       pub ask-none : (q : ℕ) → Given (Q.askNone q) → Or (Q.askNone q) (w .items ≡ [])
       ask-none q g = lift (Q.askNone q) (P.ask-none D D32 G T₀ (w .items) (at-root nought (g .none-fails .1 .1 .0)) stands)

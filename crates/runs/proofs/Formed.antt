@@ -111,7 +111,8 @@ module _ (D : List ℕ → Dig) (D32 : (l : List ℕ) → length (D l) ≡ 32) w
   well-fold u sides [] hu hl = tt
   well-fold u sides (s ∷ l) hu hl =
       well-append (upForms D u s (sides % 2)) (foldForms D (up D u s (sides % 2)) (sides / 2) l)
-      (well-pick (eqb (sides % 2) 1) (parentForms s u) (parentForms u s) (well-parent s u (hl .0) hu) (well-parent u s hu (hl .0)))
+      (well-pick (eqb (sides % 2) 1) (parentForms s u) (parentForms u s) (well-parent s u (hl .0) hu)
+      (well-parent u s hu (hl .0)))
       (well-fold (up D u s (sides % 2)) (sides / 2) l (up-32 u s (sides % 2) hu (hl .0)) (hl .1))
 
   well-u1 : (x y x′ y′ k : Dig) → Is32 x → Is32 y → Is32 x′ → Is32 y′ → Is32 k → WellFormed (memo (u1 x y x′ y′) k)
@@ -173,7 +174,10 @@ module _ (D : List ℕ → Dig) (D32 : (l : List ℕ) → length (D l) ≡ 32) w
         let x2 = digest D (leaf A′ B′ nought) in
         let t = well-u2 x1 x2 y x1′ nought y′ key (d32 _) (d32 _) (w .4) (d32 _) refl (w .5) hk in
         let t′ = well-u2 x2 x1 y nought x1′ y′ key (d32 _) (d32 _) (w .4) refl (d32 _) (w .5) hk in
-        let f = well-append (placeForms A A′ B′ ω) (tried D key (placeSays D A A′ B′ ω y y′) m) ((w .0, (w .1, (w .3, tt))), ((w .0, (w .2, (w .3, tt))), ((w .1, (w .2, (refl, tt))), tt)))
+        let f = well-append (placeForms A A′ B′ ω) (tried D key (placeSays D A A′ B′ ω y y′) m) (
+          (w .0, (w .1, (w .3, tt))),
+          ((w .0, (w .2, (w .3, tt))), ((w .1, (w .2, (refl, tt))), tt)),
+        )
         (well-tried key (placeSays D A A′ B′ ω y y′) m (t, (t′, tt))) in
         (tt, (tt, (tt, (tt, (tt, (f, tt))))))
     well-needs (Q.turn x y m) n w = (tt, (well-tried key (ei x y ∷ []) m ((w .0, (w .1, (hk, tt))), tt), tt))
@@ -208,12 +212,14 @@ module _ (D : List ℕ → Dig) (D32 : (l : List ℕ) → length (D l) ≡ 32) w
         let y = fold-up-32 D D32 x sides l (w .0) (w .2) in
         let y′ = fold-up-32 D D32 x′ sides l (w .1) (w .2) in (
           (w .0, (y, (w .1, (y′, (hk, tt))))),
-          well-append (foldForms D x′ sides l) (foldForms D x sides l) (well-fold x′ sides l (w .1) (w .2)) (well-fold x sides l (w .0) (w .2)),
+          well-append (foldForms D x′ sides l) (foldForms D x sides l) (well-fold x′ sides l (w .1) (w .2))
+              (well-fold x sides l (w .0) (w .2)),
         )
     well-answer (Q.witness x y m) w = ((w .0, (w .1, (hk, tt))), tt)
     well-answer (Q.join x y x′ y′ m1 z z′ m2) w = (well-u1 x z x′ z′ key (w .0) (w .4) (w .2) (w .5) hk, tt)
     well-answer (Q.pair x1 y x1′ y′ m1 x2 z x2′ z′ m2) w = (
-      well-u2 x1 x2 (H D y z) x1′ x2′ (H D y′ z′) key (w .0) (w .4) (parent-32 D D32 y z (w .1) (w .5)) (w .2) (w .6) (parent-32 D D32 y′ z′ (w .3) (w .7)) hk,
+      well-u2 x1 x2 (H D y z) x1′ x2′ (H D y′ z′) key (w .0) (w .4) (parent-32 D D32 y z (w .1) (w .5)) (w .2) (w .6)
+          (parent-32 D D32 y′ z′ (w .3) (w .7)) hk,
       well-append (parentForms y′ z′) (parentForms y z) (well-parent y′ z′ (w .3) (w .7)) (well-parent y z (w .1) (w .5)),
     )
     well-answer (Q.raise x1 x2 y x1′ x2′ y′ m1 z z′ m2) w =
@@ -263,7 +269,10 @@ pub at-top : (D : List ℕ → Dig) (s : Registers) (kind A A′ : ℕ) (old : R
 at-top D s kind A A′ old v2 v3 v4 y y′ m h =
     let q = Q.setTo A A′ old v2 v3 v4 y y′ m in
     let before : List ℕ = 13 ∷ 14 ∷ 12 ∷ 4 ∷ 5 ∷ 6 ∷ 11 ∷ [] in
-    let r = stops before 7 (8 ∷ 9 ∷ 10 ∷ []) (needs D s q) (refl, (refl, (refl, (refl, (refl, (refl, (refl, tt))))))) refl (rw (eq-eqb (s .counter .0) top h) refl) in
+    let r = stops before 7 (8 ∷ 9 ∷ 10 ∷ []) (needs D s q) (
+      refl,
+      (refl, (refl, (refl, (refl, (refl, (refl, tt)))))),
+    ) refl (rw (eq-eqb (s .counter .0) top h) refl) in
     ap (λ (v : Verdict). told D s kind q v .formed) (r .1)
 
 -- a module that is not open refuses all but an opening, and no string is formed

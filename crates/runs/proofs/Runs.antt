@@ -76,7 +76,8 @@ module _ (D : List ℕ → Dig) (D32 : (l : List ℕ) → length (D l) ≡ 32) w
       (Fault (digest D) (a .formed ++ w .formed) ⊎ ((a .refusal ≡ 0) × Forgery D D32 w [] q))
       ⊎ (Core D D32 (landed D by w a) × (a .refusal ≡ 0 → TrueAnswer D q (w .items)) × LegalEffect D w (a .effect))
 
-  refused-out : (by : Reading) (w : World) (q : Request) (a : Told) → (a .refusal ≡ 0 → ⊥) → a .after ≡ w .registers → a .effect ≡ none′
+  refused-out : (by : Reading) (w : World) (q : Request) (a : Told) → (a .refusal ≡ 0 → ⊥) → a .after ≡ w .registers
+      → a .effect ≡ none′
       → Core D D32 w → Out by w q a
   refused-out by w q a n e f v =
       inr (
@@ -109,7 +110,8 @@ module _ (D : List ℕ → Dig) (D32 : (l : List ℕ) → length (D l) ≡ 32) w
               λ c i x j.
               Memᴰ·append-left (w .formed)
               (Memᴰ·append-right (answer D s q .forms)
-              (subst (λ (l : List Str). List·Memᴰ x l) f (check-formed x c late cs i (among-late late c cs (numbered-late D s q) i) j)));
+              (subst (λ (l : List Str). List·Memᴰ x l) f (check-formed x c late cs i
+              (among-late late c cs (numbered-late D s q) i) j)));
           wide = h;
         }
 
@@ -123,8 +125,10 @@ module _ (D : List ℕ → Dig) (D32 : (l : List ℕ) → length (D l) ≡ 32) w
             true≢false (ap isPassed (sym (judge-passed late [] cs p) ∙ e))
     by-verdict by (passed fs) e h c = landing (accepted D D32 by w kind fs c q (given fs e h))
       where
-        landing : (Fault (digest D) ((answer D s q .forms ++ fs) ++ w .formed) ⊎ Forgery D D32 w ((answer D s q .forms ++ fs) ++ w .formed) q)
-            ⊎ (Core D D32 (landed D by w (told D s kind q (passed fs))) × TrueAnswer D q (w .items) × LegalEffect D w (answer D s q .effect))
+        landing : (Fault (digest D) ((answer D s q .forms ++ fs) ++ w .formed) ⊎ Forgery D D32 w
+            ((answer D s q .forms ++ fs) ++ w .formed) q)
+            ⊎ (Core D D32 (landed D by w (told D s kind q (passed fs))) × TrueAnswer D q (w .items) × LegalEffect D w
+            (answer D s q .effect))
             → Out by w q (told D s kind q (passed fs))
         landing (inl (inl f)) = inl (inl f)
         landing (inl (inr f)) = inl (inr (refl, f))
@@ -136,7 +140,8 @@ module _ (D : List ℕ → Dig) (D32 : (l : List ℕ) → length (D l) ≡ 32) w
   below-top : (c : ℕ) → Small c → eqb c top ≡ false → Small (c + 1)
   below-top c h e = omega (arith, eqb-false c top e)
 
-  small-after : (s : Registers) (q : Request) → NoneFails (needs D s q) → Small (s .counter .0) → Small (answer D s q .after .counter .0)
+  small-after : (s : Registers) (q : Request) → NoneFails (needs D s q) → Small (s .counter .0)
+      → Small (answer D s q .after .counter .0)
   small-after s (Q.path x x′ sides l) h c = c
   small-after s (Q.witness x y m) h c = c
   small-after s (Q.join x y x′ y′ m1 z z′ m2) h c = c
@@ -224,8 +229,10 @@ module _ (D : List ℕ → Dig) (D32 : (l : List ℕ) → length (D l) ≡ 32) w
       }
 
   -- an accepted line
-  accepted-side : (by : Reading) (k : Dig) (w : World) (kind : ℕ) (q : Request) (fs : List Str) → NoneFails (needs D (w .registers) q) → Wide q
-      → Well (told D (w .registers) kind q (passed fs) .formed) → Side k w → Side k (landed D by w (told D (w .registers) kind q (passed fs)))
+  accepted-side : (by : Reading) (k : Dig) (w : World) (kind : ℕ) (q : Request) (fs : List Str)
+      → NoneFails (needs D (w .registers) q) → Wide q
+      → Well (told D (w .registers) kind q (passed fs) .formed) → Side k w → Side k
+      (landed D by w (told D (w .registers) kind q (passed fs)))
   accepted-side by k w kind q fs n h f v =
       let s = w .registers in
       record {
@@ -238,15 +245,19 @@ module _ (D : List ℕ → Dig) (D32 : (l : List ℕ) → length (D l) ≡ 32) w
   -- ── the strings of a line that is read ──
 
   -- an opening forms none
-  opening-forms : (s : Registers) (kind : ℕ) (k : Dig) → told D s kind (Q.unlock k) (judge late [] (needs D s (Q.unlock k))) .formed ≡ []
+  opening-forms : (s : Registers) (kind : ℕ) (k : Dig)
+      → told D s kind (Q.unlock k) (judge late [] (needs D s (Q.unlock k))) .formed ≡ []
   opening-forms s kind k = by-tests (s .opened) (allZero k)
     where
-      by-tests : (b c : Bool) → told D s kind (Q.unlock k) (pick (either b false) (refused 14 []) (pick (either c false) (refused 12 []) (passed []))) .formed ≡ []
+      by-tests : (b c : Bool)
+          → told D s kind (Q.unlock k) (pick (either b false) (refused 14 [])
+          (pick (either c false) (refused 12 []) (passed []))) .formed ≡ []
       by-tests true c = refl
       by-tests false true = refl
       by-tests false false = refl
 
-  closed-forms : (s : Registers) (kind : ℕ) (q : Request) → s .opened ≡ false → told D s kind q (judge late [] (needs D s q)) .formed ≡ []
+  closed-forms : (s : Registers) (kind : ℕ) (q : Request) → s .opened ≡ false
+      → told D s kind q (judge late [] (needs D s q)) .formed ≡ []
   closed-forms s kind q o = by-kind (shut D s kind q o)
     where
       by-kind : Shut D s kind q → told D s kind q (judge late [] (needs D s q)) .formed ≡ []
@@ -272,7 +283,8 @@ module _ (D : List ℕ → Dig) (D32 : (l : List ℕ) → length (D l) ≡ 32) w
     where
       at : (b : Bool) → eqb (s .counter .0) top ≡ b
           → Small (s .counter .0 + 1)
-          ⊎ (told D s kind (Q.setTo A A′ old v2 v3 v4 y y′ m) (judge late [] (needs D s (Q.setTo A A′ old v2 v3 v4 y y′ m))) .formed ≡ [])
+          ⊎ (told D s kind (Q.setTo A A′ old v2 v3 v4 y y′ m) (judge late [] (needs D s (Q.setTo A A′ old v2 v3 v4 y y′ m)))
+          .formed ≡ [])
       at true e = inr (at-top D s kind A A′ old v2 v3 v4 y y′ m (eqb-true (s .counter .0) top e))
       at false e = inl (below-top (s .counter .0) c e)
   next-or-none s kind (Q.clear A A′ old y y′ m) c = inl tt
@@ -290,7 +302,8 @@ module _ (D : List ℕ → Dig) (D32 : (l : List ℕ) → length (D l) ≡ 32) w
       by-next hk (inl n) = well-formed D D32 (w .registers) hk kind q n h
       by-next hk (inr e) = subst Well (sym e) tt
 
-      by-open : (b : Bool) → w .registers .opened ≡ b → Well (told D (w .registers) kind q (judge late [] (needs D (w .registers) q)) .formed)
+      by-open : (b : Bool) → w .registers .opened ≡ b
+          → Well (told D (w .registers) kind q (judge late [] (needs D (w .registers) q)) .formed)
       by-open true o = by-next (k o) (next-or-none (w .registers) kind q c)
       by-open false o = subst Well (sym (closed-forms (w .registers) kind q o)) tt
 
@@ -303,7 +316,8 @@ module _ (D : List ℕ → Dig) (D32 : (l : List ℕ) → length (D l) ≡ 32) w
       s = w .registers
 
       by-verdict : (u : Verdict) → judge late [] (needs D (w .registers) q) ≡ u → Well (told D (w .registers) kind q u .formed)
-          → (w .registers .opened ≡ false → told D (w .registers) kind q u .formed ≡ []) → Side k (landed D by w (told D (w .registers) kind q u))
+          → (w .registers .opened ≡ false → told D (w .registers) kind q u .formed ≡ []) → Side k
+          (landed D by w (told D (w .registers) kind q u))
       by-verdict (refused n fs) e f o = refused-side by k w (told D (w .registers) kind q (refused n fs)) refl refl f o v
       by-verdict (passed fs) e f o =
           let p = passes w kind q (ap (λ (u : Verdict). told D (w .registers) kind q u .refusal) e) in
@@ -343,7 +357,8 @@ module _ (D : List ℕ → Dig) (D32 : (l : List ℕ) → length (D l) ≡ 32) w
           let k = kindOf (bytesOf (t .line)) in
           let p = passes w k (asked t) (sym (ap (λ (a : Told). a .refusal) e) ∙ h) in
           ap (λ (a : Told). a .says) e
-          ∙ ap (λ (v : Verdict). told D (w .registers) k (asked t) v .says) (judge-passed late [] (needs D (w .registers) (asked t)) p)
+          ∙ ap (λ (v : Verdict). told D (w .registers) k (asked t) v .says)
+          (judge-passed late [] (needs D (w .registers) (asked t)) p)
 
   line-side : (by : Reading) (k : Dig) (w : World) (t : Turn) → Side k w → Side k (next D by w t)
   line-side by k w t v = by-sort (sorted D (w .registers) (t .line) (t .space))
@@ -354,7 +369,8 @@ module _ (D : List ℕ → Dig) (D32 : (l : List ℕ) → length (D l) ≡ 32) w
           subst (λ (x : Told). Side k (landed D by w x)) (sym e) (refused-side by k w a refl refl tt (λ o. refl) v)
       by-sort (on-time h i j l e) =
           let f = bytesOf (t .line) in
-          subst (λ (x : Told). Side k (landed D by w x)) (sym e) (read-side by k w (kindOf f) (asked t) (wide f (line-bytes (t .line)) j l) v)
+          subst (λ (x : Told). Side k (landed D by w x)) (sym e)
+          (read-side by k w (kindOf f) (asked t) (wide f (line-bytes (t .line)) j l) v)
 
   -- ── the run ──
 

@@ -60,7 +60,8 @@ module _ (D : List ℕ → Dig) (D32 : (l : List ℕ) → length (D l) ≡ 32) w
 
   -- ── a line that changes nothing but the strings ──
 
-  pub kept-core : (by : Reading) (w : World) (a : Told) → a .after .root ≡ w .registers .root → a .after .counter ≡ w .registers .counter
+  pub kept-core : (by : Reading) (w : World) (a : Told) → a .after .root ≡ w .registers .root → a .after .counter
+      ≡ w .registers .counter
       → a .effect ≡ none′ → Core w → Core (landed D by w a)
   kept-core by w a r c e v =
       record {
@@ -72,13 +73,15 @@ module _ (D : List ℕ → Dig) (D32 : (l : List ℕ) → length (D l) ≡ 32) w
       }
 
   -- what an ask tells is true
-  pub true-finding : (F : List Str) (l : Items) (q A A′ : ℕ) (r : Record) → malformed r ≡ false → either (eqb q A) (inGap q A A′) ≡ true
+  pub true-finding : (F : List Str) (l : Items) (q A A′ : ℕ) (r : Record) → malformed r ≡ false
+      → either (eqb q A) (inGap q A A′) ≡ true
       → P.Found D D32 F A A′ r l → TrueFinding D q (findingOf q A A′ r) l
   unfolding findingOf malformed
   true-finding F l q A A′ r ok near f = by-tests (eqb q A) (blank r) refl refl near
     where
       by-tests : (b c : Bool) → eqb q A ≡ b → blank r ≡ c → either b (inGap q A A′) ≡ true
-          → TrueFinding D q (pick b (pick c (Listed (record { 0 = A })) (Recorded (record { 0 = A }) r)) (Gap (record { 0 = A }) (record { 0 = A′ }))) l
+          → TrueFinding D q (pick b (pick c (Listed (record { 0 = A })) (Recorded (record { 0 = A }) r))
+          (Gap (record { 0 = A }) (record { 0 = A′ }))) l
       by-tests true true e e′ n = (eqb-true q A e, subst (λ (x : Record). List·Memᴰ (item A x) l) (blank-empty r e′ ok) (f .0))
       by-tests true false e e′ n = (eqb-true q A e, e′, f .0)
       by-tests false c e e′ n = (n, f .1 q n, (r, f .0, f .2))
@@ -129,9 +132,11 @@ module _ (D : List ℕ → Dig) (D32 : (l : List ℕ) → length (D l) ≡ 32) w
 
       -- its memorandum is the first string that its answer forms
       first-string : (q : Request) (t : Str) (l : List Str) → answer D s q .forms ≡ t ∷ l → t ∈ G q
-      first-string q t l e = Memᴰ·append-left (w .formed) (Memᴰ·append-left {s = answer D s q .forms} fs (rw e (List·Memᴰ·head refl)))
+      first-string q t l e = Memᴰ·append-left (w .formed) (Memᴰ·append-left {s = answer D s q .forms} fs
+          (rw e (List·Memᴰ·head refl)))
 
-      issues-it : (q : Request) (t : Memo) (c : Change) (l : List Str) → answer D s q .after ≡ s → answer D s q .effect ≡ issues t c
+      issues-it : (q : Request) (t : Memo) (c : Change) (l : List Str) → answer D s q .after ≡ s → answer D s q .effect
+          ≡ issues t c
           → answer D s q .forms ≡ memo t (s .secret) ∷ l → TrueAnswer D q (w .items) → LegalEffect D w (answer D s q .effect)
           → Or D D32 w (G q) q (Means (digest D) (G q) t (meaning (w .book) c)) → Comes q
       issues-it q t c l e₁ e₂ f tr le o = do
@@ -214,7 +219,11 @@ module _ (D : List ℕ → Dig) (D32 : (l : List ℕ) → length (D l) ≡ 32) w
         let h = g .none-fails .1 .1 .1 .1
         let p = Q.ask q A A′ r y m
         f ← E.ask D D32 w (G p) (backed p) (v .tree) (v .root) (standing p) q A A′ r y m g
-        inr (kept-core by w (a p) refl refl refl v, true-finding (w .formed) (w .items) q A A′ r (h .0) (opposite-false _ (h .1 .0)) f, tt)
+        inr (
+          kept-core by w (a p) refl refl refl v,
+          true-finding (w .formed) (w .items) q A A′ r (h .0) (opposite-false _ (h .1 .0)) f,
+          tt,
+        )
       accepted (Q.askNone q) g = do
         let p = Q.askNone q
         f ← E.ask-none D D32 w (G p) (backed p) (v .tree) (v .root) (standing p) q g

@@ -8,7 +8,7 @@ use borrow.Author.Tests.{eqb-true, leb-true}
 use lib.Dec.{leb}
 use lib.ListN.{length, getD, take, drop, length-drop}
 use lib.Seq.{length-take-le, getD-take}
-use Rattle.seqs.specs.Choose.{both-true}
+use Rattle.seqs.specs.Choose.{both-true, _and_}
 use Rattle.seqs.specs.Bytes.{Bytes, numberOf, number8, numberAt, number-at}
 use Rattle.paper.specs.declared.Record.{Record}
 use Rattle.paper.specs.Strings.{Dig}
@@ -104,22 +104,22 @@ sized aPath l h n =
     let e : countIn (take w l) ≡ countIn l = getD-take w l 0 0 (omega arith) in
     rw e (digests-wide (countIn l) (drop 9 (take w l)) (omega (arith, length-drop 9 (take w l), length-take-le w l n)))
 
--- all that a row carries, part by part
-abbrev SizedAll : List Carried → (ℕ → List ℕ) → Type 0
-SizedAll [] p = Unit {0}
-SizedAll (c ∷ cs) p = Sized c (p 0) × SizedAll cs (λ i. p (suc i))
+-- the i-th of the things that a row carries
+abbrev SizedAt : List Carried → ℕ → List ℕ → Type 0
+SizedAt [] i l = Unit {0}
+SizedAt (c ∷ cs) zero l = Sized c l
+SizedAt (c ∷ cs) (suc i) l = SizedAt cs i l
 
-sized-all : (cs : List Carried) (l : List ℕ) → Bytes l → takesAll cs l ≤ length l → SizedAll cs (part cs l)
-sized-all [] l h n = tt
-sized-all (c ∷ cs) l h n = (
-  sized c l h (omega arith),
-  sized-all cs (drop (takes c l) l) (bytes-drop (takes c l) l h) (omega (arith, length-drop (takes c l) l)),
-)
+sized-parts : (cs : List Carried) (l : List ℕ) → Bytes l → takesAll cs l ≤ length l → (i : ℕ) → SizedAt cs i (part cs l i)
+sized-parts [] l h n i = tt
+sized-parts (c ∷ cs) l h n zero = sized c l h (omega arith)
+sized-parts (c ∷ cs) l h n (suc i) =
+    sized-parts cs (drop (takes c l) l) (bytes-drop (takes c l) l h) (omega (arith, length-drop (takes c l) l)) i
 
 -- ── every row of the table ──
 
 abbrev WideRow : Kind → Type 0
-WideRow k = (p : ℕ → List ℕ) → SizedAll (k .carries) p → Wide (k .reads p)
+WideRow k = (p : ℕ → List ℕ) → ((i : ℕ) → SizedAt (k .carries) i (p i)) → Wide (k .reads p)
 
 abbrev WideRows : List Kind → Type 0
 WideRows [] = Unit {0}
@@ -130,25 +130,26 @@ wide-row [] i d n h = absurd (omega arith)
 wide-row (k ∷ ks) zero d n h = h .0
 wide-row (k ∷ ks) (suc i) d n h = wide-row ks i d (omega arith) (h .1)
 
-rows-0d : WideRows (drop 12 kinds)
+rows : WideRows kinds
 unfolding kinds
-rows-0d =
-    (λ p h. (h .0, h .1 .0, h .1 .1 .0, h .1 .1 .1 .0, h .1 .1 .1 .1 .0), (λ p h. (h .0, h .1 .0, h .1 .1 .0, h .1 .1 .1 .0, h .1 .1 .1 .1 .0), (λ p h. h .0, (λ p h. h .0, tt))))
-
-rows-09 : WideRows (drop 8 kinds)
-unfolding kinds
-rows-09 =
-    (λ p h. (h .0, h .1 .0), (λ p h. (h .0, h .1 .0, h .1 .1 .1 .0), (λ p h. (h .0, h .1 .0), (λ p h. (h .0, h .1 .0, h .1 .1 .0, h .1 .1 .1 .0, h .1 .1 .1 .1 .0, h .1 .1 .1 .1 .1 .0, h .1 .1 .1 .1 .1 .1 .0, h .1 .1 .1 .1 .1 .1 .1 .0), rows-0d))))
-
-rows-05 : WideRows (drop 4 kinds)
-unfolding kinds
-rows-05 =
-    (λ p h. (h .0, h .1 .0, h .1 .1 .0, h .1 .1 .1 .0, h .1 .1 .1 .1 .0, h .1 .1 .1 .1 .1 .0, h .1 .1 .1 .1 .1 .1 .1 .0, h .1 .1 .1 .1 .1 .1 .1 .1 .0), (λ p h. (h .0, h .1 .0, h .1 .1 .0, h .1 .1 .1 .0), (λ p h. h .0, (λ p h. (h .0, h .1 .0, h .1 .1 .0, h .1 .1 .1 .0, h .1 .1 .1 .1 .0, h .1 .1 .1 .1 .1 .0), rows-09))))
-
-rows-01 : WideRows kinds
-unfolding kinds
-rows-01 =
-    (λ p h. (h .0, h .1 .0, h .1 .1 .0), (λ p h. (h .0, h .1 .0), (λ p h. (h .0, h .1 .0, h .1 .1 .0, h .1 .1 .1 .0, h .1 .1 .1 .1 .1 .0, h .1 .1 .1 .1 .1 .1 .0), (λ p h. (h .0, h .1 .0, h .1 .1 .0, h .1 .1 .1 .0, h .1 .1 .1 .1 .1 .0, h .1 .1 .1 .1 .1 .1 .0, h .1 .1 .1 .1 .1 .1 .1 .0, h .1 .1 .1 .1 .1 .1 .1 .1 .0), rows-05))))
+rows =
+    (λ p h. (h 0, h 1, h 2))
+    and (λ p h. (h 0, h 1))
+    and (λ p h. (h 0, h 1, h 2, h 3, h 5, h 6))
+    and (λ p h. (h 0, h 1, h 2, h 3, h 5, h 6, h 7, h 8))
+    and (λ p h. (h 0, h 1, h 2, h 3, h 4, h 5, h 7, h 8))
+    and (λ p h. (h 0, h 1, h 2, h 3))
+    and (λ p h. h 0)
+    and (λ p h. (h 0, h 1, h 2, h 3, h 4, h 5))
+    and (λ p h. (h 0, h 1))
+    and (λ p h. (h 0, h 1, h 3))
+    and (λ p h. (h 0, h 1))
+    and (λ p h. (h 0, h 1, h 2, h 3, h 4, h 5, h 6, h 7))
+    and (λ p h. (h 0, h 1, h 2, h 3, h 4))
+    and (λ p h. (h 0, h 1, h 2, h 3, h 4))
+    and (λ p h. h 0)
+    and (λ p h. h 0)
+    and tt
 
 -- ── a sound frame ──
 
@@ -160,5 +161,5 @@ wide f h k n =
     let lo = leb-true 1 (kindOf f) (known-by .0) in
     let hi = leb-true (kindOf f) (length kinds) (known-by .1) in
     let long = eqb-true (length f) (1 + takesAll (row .carries) (drop 1 f)) (both-true _ _ n .0) in
-    wide-row kinds (kindOf f - 1) _ (omega arith) rows-01 _
-    (sized-all (row .carries) (drop 1 f) (bytes-drop 1 f h) (omega (arith, length-drop 1 f)))
+    wide-row kinds (kindOf f - 1) _ (omega arith) rows _
+    (sized-parts (row .carries) (drop 1 f) (bytes-drop 1 f h) (omega (arith, length-drop 1 f)))

@@ -37,3 +37,10 @@ both-no false = refl
 pub either-yes : (p : Bool) → either p true ≡ true
 either-yes true = refl
 either-yes false = refl
+
+-- ── facts in a row ──
+
+infixr 30 _and_
+-- one, and then the others: a proof of nested pairs without their brackets
+pub _and_ : {A B : Type 0} → A → B → A × B
+a and b = (a, b)
