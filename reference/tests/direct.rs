@@ -4,7 +4,7 @@
 
 mod common;
 
-use common::{be, hex, leaf, numbers, record_hash, some, u1, Digest, SECRET, ZERO};
+use common::{assert_decided_by_seed, be, hex, leaf, numbers, record_hash, some, u1, Digest, SECRET, ZERO};
 use reference::direct::{generate, Call, MOST_LINE};
 use reference::module::Registers;
 use reference::probes::answer;
@@ -303,13 +303,5 @@ fn registers_and_lines_are_of_every_sort() {
 
 #[test]
 fn calls_are_decided_by_their_seed() {
-    let made = |seed, count| {
-        let mut all = Vec::new();
-        generate(seed, count, &mut |probe| all.push(probe.to_vec()));
-        all
-    };
-    assert!(made(1, 0).is_empty());
-    assert_eq!(made(9, 300), made(9, 500)[..300]);
-    assert_ne!(made(9, 300), made(10, 300));
-    assert!(made(9, 5000).iter().all(|probe| !probe.contains(&b'\n')));
+    assert_decided_by_seed(generate);
 }

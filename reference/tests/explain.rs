@@ -3,14 +3,14 @@
 
 mod common;
 
-use common::{be, bytes, hex, leaf, node, numbers, record_hash, Digest, SECRET, ZERO};
+use common::{be, bytes, hex, leaf, node, numbers, record_hash, run, Digest, SECRET, ZERO};
 use reference::explain;
 use reference::keeper::{Keeper, Module};
 use reference::module::{answer, Registers};
 use reference::random::Random;
 use reference::sessions::generate;
-use std::io::Write;
-use std::process::{Command, Output, Stdio};
+
+const EXPLAIN: &str = env!("CARGO_BIN_EXE_explain");
 
 /// A digest told by one byte: `d(0xa1)` is called a1a1a1a1… in a sentence.
 fn d(n: u8) -> Digest {
@@ -1165,28 +1165,9 @@ fn any_bytes_get_one_sentence() {
     }
 }
 
-fn run(arguments: &[&str], input: &[u8]) -> Output {
-    let mut child = Command::new(env!("CARGO_BIN_EXE_explain"))
-        .args(arguments)
-        .stdin(Stdio::piped())
-        .stdout(Stdio::piped())
-        .stderr(Stdio::piped())
-        .spawn()
-        .expect("the program starts");
-    let mut pipe = child.stdin.take().expect("it has an input");
-    let input = input.to_vec();
-    // From another thread, for the program writes while it reads.
-    let writer = std::thread::spawn(move || {
-        let _ = pipe.write_all(&input);
-    });
-    let output = child.wait_with_output().expect("the program ends");
-    writer.join().expect("the input is written");
-    output
-}
-
 /// The lines the program writes.
 fn explained(arguments: &[&str], input: &[u8]) -> Vec<String> {
-    let output = run(arguments, input);
+    let output = run(EXPLAIN, arguments, input);
     assert_eq!(output.status.code(), Some(0));
     assert_eq!(output.stderr, b"");
     let text = String::from_utf8(output.stdout).unwrap();
@@ -1232,7 +1213,7 @@ fn requests_and_replies_come_by_turns() {
 #[test]
 fn other_arguments_are_refused_in_one_sentence() {
     for arguments in [&["--reply"][..], &["--replies", "--replies"], &["file"], &[""], &["-h"]] {
-        let output = run(arguments, b"ff\n");
+        let output = run(EXPLAIN, arguments, b"ff\n");
         assert_eq!(output.status.code(), Some(2));
         assert_eq!(output.stdout, b"");
         assert_eq!(

@@ -3,7 +3,7 @@
 
 mod common;
 
-use common::hex;
+use common::{assert_decided_by_seed, hex};
 use reference::frames::{unhex, KINDS, LONGEST_FRAME};
 use reference::hostile::random_frame;
 use reference::probes::{answer, generate, KEPT};
@@ -381,13 +381,5 @@ fn a_long_line_is_answered_like_its_first_bytes() {
 
 #[test]
 fn probes_are_decided_by_their_seed() {
-    let made = |seed, count| {
-        let mut all = Vec::new();
-        generate(seed, count, &mut |probe| all.push(probe.to_vec()));
-        all
-    };
-    assert!(made(1, 0).is_empty());
-    assert_eq!(made(9, 300), made(9, 500)[..300]);
-    assert_ne!(made(9, 300), made(10, 300));
-    assert!(made(9, 5000).iter().all(|probe| !probe.contains(&b'\n')));
+    assert_decided_by_seed(generate);
 }

@@ -1,38 +1,20 @@
 //! The five programs as they are run: `reference`, `sessions`, `vectors`, `probe` and
 //! `probes`.
 
+mod common;
+
+use common::run;
 use reference::sessions::generate;
 use reference::{direct, probes};
 use std::io::{BufRead, BufReader, Write};
 use std::path::{Path, PathBuf};
-use std::process::{Command, Output, Stdio};
+use std::process::{Command, Stdio};
 
 const REFERENCE: &str = env!("CARGO_BIN_EXE_reference");
 const SESSIONS: &str = env!("CARGO_BIN_EXE_sessions");
 const VECTORS: &str = env!("CARGO_BIN_EXE_vectors");
 const PROBE: &str = env!("CARGO_BIN_EXE_probe");
 const PROBES: &str = env!("CARGO_BIN_EXE_probes");
-
-/// Runs a program on some input and gives what it wrote. The input is written
-/// from another thread, for the program answers while it reads.
-fn run(program: &str, arguments: &[&str], input: &[u8]) -> Output {
-    let mut child = Command::new(program)
-        .args(arguments)
-        .stdin(Stdio::piped())
-        .stdout(Stdio::piped())
-        .stderr(Stdio::piped())
-        .spawn()
-        .expect("the program starts");
-    let mut pipe = child.stdin.take().expect("it has an input");
-    let input = input.to_vec();
-    let writer = std::thread::spawn(move || {
-        // A program that stops early closes the pipe; that is its affair.
-        let _ = pipe.write_all(&input);
-    });
-    let output = child.wait_with_output().expect("the program ends");
-    writer.join().expect("the input is written");
-    output
-}
 
 fn replies(arguments: &[&str], input: &[u8]) -> String {
     let output = run(REFERENCE, arguments, input);

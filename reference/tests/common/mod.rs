@@ -5,6 +5,8 @@
 
 use reference::module::{answer, Answer, Registers};
 use reference::sha256;
+use std::io::Write;
+use std::process::{Command, Output, Stdio};
 
 pub type Digest = [u8; 32];
 
@@ -114,4 +116,39 @@ pub fn damaged(digest: &Digest) -> Digest {
     let mut other = *digest;
     other[31] ^= 1;
     other
+}
+
+/// Runs a program on some input and gives what it wrote. The input is written
+/// from another thread, for the program answers while it reads.
+pub fn run(program: &str, arguments: &[&str], input: &[u8]) -> Output {
+    let mut child = Command::new(program)
+        .args(arguments)
+        .stdin(Stdio::piped())
+        .stdout(Stdio::piped())
+        .stderr(Stdio::piped())
+        .spawn()
+        .expect("the program starts");
+    let mut pipe = child.stdin.take().expect("it has an input");
+    let input = input.to_vec();
+    let writer = std::thread::spawn(move || {
+        // A program that stops early closes the pipe; that is its affair.
+        let _ = pipe.write_all(&input);
+    });
+    let output = child.wait_with_output().expect("the program ends");
+    writer.join().expect("the input is written");
+    output
+}
+
+/// What a generator makes hangs on its seed alone, a longer list begins as a shorter
+/// one, and no probe holds the byte that ends a line.
+pub fn assert_decided_by_seed(generate: fn(u64, usize, &mut dyn FnMut(&[u8]))) {
+    let made = |seed, count| {
+        let mut all = Vec::new();
+        generate(seed, count, &mut |probe| all.push(probe.to_vec()));
+        all
+    };
+    assert!(made(1, 0).is_empty());
+    assert_eq!(made(9, 300), made(9, 500)[..300]);
+    assert_ne!(made(9, 300), made(10, 300));
+    assert!(made(9, 5000).iter().all(|probe| !probe.contains(&b'\n')));
 }
