@@ -17,7 +17,7 @@ use crate::module::{
 use crate::strings::{Digest, Formed, Record};
 
 /// The sentence for a reply, or why it is bad.
-pub fn sentence(asked: &Result<Request, Bad>, reply: &[u8]) -> Result<String, String> {
+pub(super) fn sentence(asked: &Result<Request, Bad>, reply: &[u8]) -> Result<String, String> {
     match (asked, reply) {
         (_, []) => Err("it is empty".to_string()),
         (_, [0, fields @ ..]) => refusal(asked, fields),
