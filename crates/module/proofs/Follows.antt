@@ -129,11 +129,13 @@ module _ (k : Dig) (n : length k ≡ 32) (bs : Bytes k) (z : allZero k ≡ false
   accepted : (s : Registers) (space : ℕ) → s .opened ≡ false → replyRoom ≤ space
       → answerTo sha256 s (digitsOf frame) space ≡ told sha256 s 0x10 (Q.unlock k) (passed [])
   accepted s space h r =
-      with-room s (digitsOf frame) space r ∙ is-hex s (digitsOf frame) is-line ∙ ap (answerFrame sha256 s) frame-bytes ∙ framed s h
+      with-room s (digitsOf frame) space r ∙ is-hex s (digitsOf frame) is-line ∙ ap (answerFrame sha256 s) frame-bytes
+      ∙ framed s h
 
 pub opens : Opens
 opens s k space after o h n bs z r p =
-    let e : o ≡ answeredOf (told sha256 s 0x10 (Q.unlock k) (passed [])) = p .returned ∙ ap answeredOf (accepted k n bs z s (length space) h r) in
+    let e : o ≡ answeredOf (told sha256 s 0x10 (Q.unlock k) (passed [])) =
+    p .returned ∙ ap answeredOf (accepted k n bs z s (length space) h r) in
     (ap (λ (x : Answered). x .refused) e, ap (λ (x : Answered). x .registers) e)
 
 ones : (n : ℕ) → Bytes (replicate n 1)

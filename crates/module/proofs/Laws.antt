@@ -127,7 +127,8 @@ module _ (s : Registers) (line : List ℕ) where
   read-line-by false h z = (short line h, sym (is-hex s line h))
 
   pub line-read : (k l : ℕ) → Frame k l ≡ readOf line 2122
-      → (l ≡ length (bytesOf line)) × (length (bytesOf line) ≤ 2122) × (answerFrame sha256 s (bytesOf line) ≡ answerTo sha256 s line 195)
+      → (l ≡ length (bytesOf line)) × (length (bytesOf line) ≤ 2122)
+      × (answerFrame sha256 s (bytesOf line) ≡ answerTo sha256 s line 195)
   unfolding readOf
   line-read k l e =
       let i : ℕ = readRefusal line 2122 in
@@ -164,20 +165,23 @@ module _ (s : Registers) (k : ℕ) (q : Q.Request) where
   never [] fs cs h = refl
   never (i ∷ ns) fs cs h =
       let p = both-of (eqb i 15) (notAmong 15 ns) h in
-      never-step i (formedAt i cs ++ fs) (judge ns (formedAt i cs ++ fs) cs) (applies i cs) (eqb i 15) refl (p .0) (never ns (formedAt i cs ++ fs) cs (p .1))
+      never-step i (formedAt i cs ++ fs) (judge ns (formedAt i cs ++ fs) cs) (applies i cs) (eqb i 15) refl (p .0)
+      (never ns (formedAt i cs ++ fs) cs (p .1))
 
 pub not-15 : (s : Registers) (line : List ℕ) → eqb (answerTo sha256 s line 195 .refusal) 15 ≡ false
 unfolding answerTo
 not-15 s line =
     let f = bytesOf line in
     let q = requestOf f in
-    rw (none-early sha256 s q .of-15) (never s (kindOf f) q (drop 1 order) [] (roomFor 195 195 ∷ isHex line ∷ (frameChecks f ++ needs sha256 s q)) refl)
+    rw (none-early sha256 s q .of-15) (never s (kindOf f) q (drop 1 order) []
+    (roomFor 195 195 ∷ isHex line ∷ (frameChecks f ++ needs sha256 s q)) refl)
 
 module _ (t : Told) (o : Outcome) (e : o ≡ outcomeOf t) (long : length (o .reply) ≡ 97) where
   -- the reply lies whole in the outcome's bytes
   pub said-short : o .length ≤ 97
   said-short =
-      let h : length (o .reply) ≡ length (t .says ++ drop (length (t .says)) (replicate 97 0)) = ap (λ (x : Outcome). length (x .reply)) e in
+      let h : length (o .reply) ≡ length (t .says ++ drop (length (t .says)) (replicate 97 0)) =
+      ap (λ (x : Outcome). length (x .reply)) e in
       let l : o .length ≡ length (t .says) = ap (λ (x : Outcome). x .length) e in
       let sum = length-append (t .says) (drop (length (t .says)) (replicate 97 0)) in
       let rest = length-drop {A = ℕ} (length (t .says)) (replicate 97 0) in
