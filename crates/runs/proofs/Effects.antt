@@ -176,8 +176,8 @@ module _ (D : List ℕ → Dig) (D32 : (l : List ℕ) → length (D l) ≡ 32) (
     fits-two t t′ m h = by-test (same (dig (memo t key)) m) refl h
       where
         by-test : (b : Bool) → same (dig (memo t key)) m ≡ b → pick b false (noneFits D key (t′ ∷ []) m) ≡ false
-            → (dig (memo t key) ≡ m) ⊎ ((dig (memo t′ key) ≡ m) ×
-            (memo t′ key ∈ (memo t key ∷ pick b [] (tried D key (t′ ∷ []) m))))
+            → (dig (memo t key) ≡ m)
+            ⊎ ((dig (memo t′ key) ≡ m) × (memo t′ key ∈ (memo t key ∷ pick b [] (tried D key (t′ ∷ []) m))))
         by-test true e h = inl (same-true (dig (memo t key)) m e)
         by-test false e h = inr (fits-one t′ m h, at1)
 
@@ -206,8 +206,8 @@ module _ (D : List ℕ → Dig) (D32 : (l : List ℕ) → length (D l) ≡ 32) (
         in-gap = opposite-false (inGap A′ A B′) (g .none-fails .1 .1 .1 .1 .0)
 
         by-order : (dig (memo (placed A A′ B′ ω y y′) key) ≡ m)
-            ⊎ ((dig (memo (flipped A A′ B′ ω y y′) key) ≡ m) ×
-            (memo (flipped A A′ B′ ω y y′) key ∈ tried D key (placeSays D A A′ B′ ω y y′) m))
+            ⊎ ((dig (memo (flipped A A′ B′ ω y y′) key) ≡ m)
+            × (memo (flipped A A′ B′ ω y y′) key ∈ tried D key (placeSays D A A′ B′ ω y y′) m))
             → Or (Q.place A A′ B′ ω y y′ m) (Means dig G (ei y y′) (removal A′ ∷ []))
         by-order (inl e) = do
           a ← taken (Q.place A A′ B′ ω y y′ m) (placed A A′ B′ ω y y′) m b at0 (tries _ at0) e
@@ -268,8 +268,8 @@ module _ (D : List ℕ → Dig) (D32 : (l : List ℕ) → length (D l) ≡ 32) (
       ask q A A′ r y m g = do
         let h = g .none-fails .1 .1 .1 .1
         let t = v1 (dig (leafOf D A A′ r)) y
-        let forms : Within (leafForms D A A′ r ++ tried D key (t ∷ []) m) G = g .of-check _
-            (List·Memᴰ·tail (List·Memᴰ·tail (List·Memᴰ·tail (List·Memᴰ·tail at2))))
+        let forms : Within (leafForms D A A′ r ++ tried D key (t ∷ []) m) G =
+            g .of-check _ (List·Memᴰ·tail (List·Memᴰ·tail (List·Memᴰ·tail (List·Memᴰ·tail at2))))
         a ← taken (Q.ask q A A′ r y m) t m b at0 (forms _ (Memᴰ·append-right (leafForms D A A′ r) at0))
             (fits-one t m (h .1 .1 .0))
         lift (Q.ask q A A′ r y m) (P.ask D D32 G A A′ r T₀ (w .items) (h .0) (λ x i. forms x (Memᴰ·append-left _ i)) a
