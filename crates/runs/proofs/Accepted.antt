@@ -12,22 +12,13 @@ use Rattle.paper.specs.Strings.{Dig, Str}
 use Rattle.paper.specs.Requests.{Request}
 use Rattle.paper.specs.Refusals.{Check, those, anyFails, formsAll, applies, formedAt, passed, judge, Passed}
 use Rattle.paper.specs.Module.{Told, told}
+use Rattle.paper.proofs.Early.{among, numbered}
 use Rattle.paper.proofs.Verdicts.{firstOf, number-is}
 
 -- none of some checks fails
 abbrev pub NoneFails : List Check → Type 0
 NoneFails [] = Unit {0}
 NoneFails (c ∷ cs) = (c .fails ≡ false) × NoneFails cs
-
--- a number is one of some numbers
-abbrev pub among : ℕ → List ℕ → Bool
-among n [] = false
-among n (i ∷ ns) = either (eqb i n) (among n ns)
-
--- every check has one of the numbers
-abbrev pub numbered : List ℕ → List Check → Bool
-numbered ns [] = true
-numbered ns (c ∷ cs) = both (among (c .number) ns) (numbered ns cs)
 
 -- ── a check in its list ──
 

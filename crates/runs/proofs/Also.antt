@@ -23,7 +23,8 @@ use Rattle.runs.specs.Liveness.{latestFirst, fed, turnsFor, Live, LiveOr
 use Rattle.runs.specs.Also.{onwards, Shown, RootSettlesList, AnyForged, NoOtherWayOut, Replayed, HonestReplayed, EarliestStays, NotEndedAtFirst, AlsoFor, Also}
 use Rattle.runs.proofs.Formed.{Well, well-at, well-append}
 use Rattle.runs.proofs.Safe.{Core}
-use Rattle.runs.proofs.Runs.{side, run, stands-of, safety}
+use Rattle.runs.proofs.Sides.{side}
+use Rattle.runs.proofs.Runs.{run, stands-of, safety}
 use Rattle.runs.proofs.Live.{liveness}
 use Rattle.runs.proofs.Readings.{ended, readings-agree}
 

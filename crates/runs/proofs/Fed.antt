@@ -20,7 +20,8 @@ use Rattle.runs.specs.Frames.{written, frameOf, turnOf, turnsOf}
 use Rattle.runs.specs.Honest.{note}
 use Rattle.runs.specs.Liveness.{AllIssued, fed, Honest}
 use Rattle.runs.proofs.Accepted.{NoneFails, formedAll, all-pass, judge-passed}
-use Rattle.runs.proofs.Lines.{late, read-is}
+use Rattle.paper.proofs.Early.{late}
+use Rattle.runs.proofs.Lines.{read-is}
 use Rattle.runs.proofs.Frames.{Sendable, reads-back, line-is-hex, line-is-frame}
 
 -- the same world with other strings and memoranda

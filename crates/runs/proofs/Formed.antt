@@ -20,7 +20,7 @@ use Rattle.paper.specs.Module.{told}
 use Rattle.paper.proofs.Verdicts.{formedBy}
 use Rattle.rings.proofs.Bridge.{record-32, parent-32}
 use Rattle.rings.proofs.Paths.{AllWide, fold-up-32}
-use Rattle.runs.proofs.Lines.{late}
+use Rattle.paper.proofs.Early.{late}
 use Rattle.runs.proofs.Widths.{Is32, Small, SmallRecord, Wide}
 
 -- ── lists of well formed strings ──

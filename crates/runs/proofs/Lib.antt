@@ -21,6 +21,7 @@ pub mod Rings
 pub mod Runs
 pub mod Safe
 pub mod SetClear
+pub mod Sides
 pub mod Sizes
 pub mod Standing
 pub mod Widths

@@ -6,18 +6,13 @@ use mathlib.Core.List.{List, []}
 use Prim.Native.Nat.{ℕ}
 use native.Mathlib.Omega.{arith}
 use lib.Dec.{ltb}
-use lib.ListN.{drop}
 use Rattle.hex.specs.Hex.{bytesOf}
 use Rattle.paper.specs.declared.Registers.{Registers}
 use Rattle.paper.specs.Strings.{Dig}
 use Rattle.paper.specs.Requests.{Request, kindOf, known, fits, requestOf}
-use Rattle.paper.specs.Refusals.{order, replyRoom, isHex, needs, refused, judge}
+use Rattle.paper.specs.Refusals.{replyRoom, isHex, needs, refused, judge}
 use Rattle.paper.specs.Module.{told, answerTo}
-use Rattle.paper.proofs.Early.{none-early}
-
--- the numbers of the checks of requests
-abbrev pub late : List ℕ
-late = drop 4 order
+use Rattle.paper.proofs.Early.{late, none-early}
 
 module _ (D : List ℕ → Dig) (s : Registers) (line : List ℕ) (space : ℕ) where
   abbrev f : List ℕ

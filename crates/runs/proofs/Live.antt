@@ -27,7 +27,8 @@ use Rattle.runs.specs.Liveness.{latestFirst, Granted, Live, LiveOrEnded,
 use Rattle.runs.proofs.Parts.{IsDigest, bytes-append}
 use Rattle.runs.proofs.Sizes.{decent}
 use Rattle.runs.proofs.Safe.{Core}
-use Rattle.runs.proofs.Runs.{side, run, stands-of}
+use Rattle.runs.proofs.Sides.{side}
+use Rattle.runs.proofs.Runs.{run, stands-of}
 use Rattle.runs.proofs.Fed as Fed
 use Rattle.runs.proofs.Fed.{Brings}
 use Rattle.runs.proofs.Standing.{Ground}

@@ -22,7 +22,8 @@ use Rattle.runs.specs.Liveness.{latestFirst, fed}
 use Rattle.runs.specs.Also.{onwards, ReadingsAgree}
 use Rattle.runs.proofs.Book.{Book}
 use Rattle.runs.proofs.Safe.{Core}
-use Rattle.runs.proofs.Runs.{Out, asked, line-out, shown, run}
+use Rattle.runs.proofs.Sides.{asked}
+use Rattle.runs.proofs.Runs.{Out, line-out, shown, run}
 
 -- ── what is in a book, whichever way it is kept ──
 
@@ -103,7 +104,7 @@ module _ (D : List ℕ → Dig) (D32 : (l : List ℕ) → length (D l) ≡ 32) w
       → Ending D k (t ∷ ts) ⊎ Core D D32 (next D by v t)
   core-next by k ts v t a c = by-out (line-out D D32 by v t c)
     where
-      by-out : Out D D32 by v (asked D D32 t) (toldAt D v t) → Ending D k (t ∷ ts) ⊎ Core D D32 (next D by v t)
+      by-out : Out D D32 by v (asked t) (toldAt D v t) → Ending D k (t ∷ ts) ⊎ Core D D32 (next D by v t)
       by-out (inl (inl f)) =
           inl (shown D D32 k (t ∷ ts) (subst (Fault (digest D)) (alike-next D by ofRuns v (after D k ts) t a .formed) f))
       by-out (inl (inr x)) =
