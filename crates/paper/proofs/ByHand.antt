@@ -1,23 +1,25 @@
 -- Document 01's numbers to check by hand, from the definitions: each row computes.
 use mathlib.Core.Path.{_≡_, refl, _∙_}
-use mathlib.Core.Bool.{Bool, true, false}
-use mathlib.Core.List.{List, [], _∷_}
-use Prim.Native.Nat.{ℕ, _*_, _/_, _%_}
+use mathlib.Core.Bool.{Bool, true, false, true≢false}
+use mathlib.Core.List.{List, [], _∷_, _++_}
+use Prim.Native.Nat.{ℕ, _*_, _/_, _%_, _≤_}
 use native.Mathlib.Omega.{arith}
+use native.Mathlib.Decide.{decLe}
+use borrow.Author.Tests.{eq-eqb, ne-eqb, lt-ltb, le-ltb}
 use lib.Dec.{eqb}
 use lib.ListN.{length}
-use Rattle.seqs.specs.Choose.{pick, _and_}
+use Rattle.seqs.specs.Choose.{pick, opposite, _and_}
 use Rattle.seqs.specs.Bytes.{be64, allZero}
 use Rattle.hex.specs.Hex.{isDigit, valueOf, digitOf, lineOf, bytesOf}
 use Rattle.hex.proofs.Laws.{bytes-length}
 use Rattle.paper.specs.declared.Registers.{Registers}
-use Rattle.paper.specs.Strings.{Dig, nought, cost, parentForms, up, upForms, foldForms, malformed, inGap, recordHash, H}
+use Rattle.paper.specs.Strings.{Dig, nought, Str, node, cost, digest, parentForms, up, upForms, foldForms, malformed, inGap, recordHash, H}
 use Rattle.paper.specs.Requests.{kinds, known, fits, requestOf}
 use Rattle.paper.specs.Module.{unopened, answerTo}
 use Rattle.paper.proofs.Frames.{fits-path}
 use Rattle.paper.proofs.Ceilings.{cost-append}
 use Rattle.paper.proofs.Early.{none-early}
-use Rattle.paper.specs.ByHand.{ByHand, NoneZero, PathOf64, EdgesOf65, EveryRow, table, Runs, wholeRun}
+use Rattle.paper.specs.ByHand.{ByHand, NoneZero, NoZeroDigest, PathOf64, EdgesOf65, EveryRow, table, Runs, wholeRun}
 
 rows : (D : List ℕ → Dig) (u : Dig) → EveryRow D (table u)
 unfolding inGap H recordHash malformed
@@ -26,46 +28,72 @@ rows D u =
     and refl and refl and refl and refl and refl and refl and refl and refl and refl and refl and refl and refl and refl
     and tt
 
+-- q above, below or equal to A
+gap-of-one : (q A : ℕ) → eqb q 0 ≡ false → inGap q A A ≡ opposite (eqb q A)
+unfolding inGap
+gap-of-one q A z = by-order (decLe A q) (decLe q A)
+  where
+    by-order : Dec (A ≤ q) → Dec (q ≤ A) → inGap q A A ≡ opposite (eqb q A)
+    by-order (yes h) (yes g) =
+        rw (z, le-ltb A A (omega arith), le-ltb A q g, le-ltb q A h, eq-eqb q A (omega arith)) refl
+    by-order (yes h) (no g) =
+        rw (z, le-ltb A A (omega arith), lt-ltb A q (omega (arith, g)), ne-eqb q A (λ e. g (omega arith))) refl
+    by-order (no h) g =
+        rw
+        (z, le-ltb A A (omega arith), le-ltb A q (omega (arith, h)), lt-ltb q A (omega (arith, h)), ne-eqb q A (λ e. h (omega arith)))
+        refl
+
 -- ── a path without a zero: every level forms a node ──
 
-module _ (D : List ℕ → Dig) (none : (m : List ℕ) → allZero (D m) ≡ false) where
-  parent-not-zero : (u v : Dig) → allZero u ≡ false → allZero v ≡ false → allZero (H D u v) ≡ false
-  unfolding H
-  parent-not-zero u v h g = rw (h, g) (none _)
-
+module _ (D : List ℕ → Dig) where
   parent-cost : (u v : Dig) → allZero u ≡ false → allZero v ≡ false → cost (parentForms u v) ≡ 2
   unfolding parentForms
   parent-cost u v h g = rw (h, g) refl
 
-  up-not-zero : (b : Bool) (u v : Dig) → allZero u ≡ false → allZero v ≡ false → allZero (pick b (H D v u) (H D u v)) ≡ false
-  up-not-zero true u v h g = parent-not-zero v u g h
-  up-not-zero false u v h g = parent-not-zero u v h g
+  -- a node whose digest is not zero: the parent is not zero, and the strings behind it are left
+  parent-on : (u v : Dig) (rest : List Str) → allZero u ≡ false → allZero v ≡ false → NoZeroDigest D (parentForms u v ++ rest)
+      → (allZero (H D u v) ≡ false) × NoZeroDigest D rest
+  unfolding parentForms H
+  parent-on u v rest h g n = by (allZero u) (allZero v) h g n
+    where
+      by : (p q : Bool) → p ≡ false → q ≡ false → NoZeroDigest D (pick q [] (pick p [] (node u v ∷ [])) ++ rest)
+          → (allZero (pick q u (pick p v (digest D (node u v)))) ≡ false) × NoZeroDigest D rest
+      by false false h g n = (n .0, n .1)
+      by true q h g n = absurd (true≢false h)
+      by false true h g n = absurd (true≢false g)
+
+  up-on : (b : Bool) (u v : Dig) (rest : List Str) → allZero u ≡ false → allZero v ≡ false
+      → NoZeroDigest D (pick b (parentForms v u) (parentForms u v) ++ rest)
+      → (allZero (pick b (H D v u) (H D u v)) ≡ false) × NoZeroDigest D rest
+  up-on true u v rest h g n = parent-on v u rest g h n
+  up-on false u v rest h g n = parent-on u v rest h g n
 
   up-cost : (b : Bool) (u v : Dig) → allZero u ≡ false → allZero v ≡ false
       → cost (pick b (parentForms v u) (parentForms u v)) ≡ 2
   up-cost true u v h g = parent-cost v u g h
   up-cost false u v h g = parent-cost u v h g
 
-  fold-cost : (u : Dig) (sides : ℕ) (l : List Dig) → allZero u ≡ false → NoneZero l
+  fold-cost : (u : Dig) (sides : ℕ) (l : List Dig) → allZero u ≡ false → NoneZero l → NoZeroDigest D (foldForms D u sides l)
       → cost (foldForms D u sides l) ≡ 2 * length l
-  fold-cost u sides [] h g = refl
-  fold-cost u sides (v ∷ l) h g =
+  fold-cost u sides [] h g n = refl
+  fold-cost u sides (v ∷ l) h g n =
       let b = eqb (sides % 2) 1 in
       let w = up D u v (sides % 2) in
+      let on = up-on b u v (foldForms D w (sides / 2) l) h (g .0) n in
       omega (
         arith,
         cost-append (upForms D u v (sides % 2)) (foldForms D w (sides / 2) l),
         up-cost b u v h (g .0),
-        fold-cost w (sides / 2) l (up-not-zero b u v h (g .0)) (g .1),
+        fold-cost w (sides / 2) l (on .0) (g .1) (on .1),
       )
 
 path-of-64 : (D : List ℕ → Dig) → PathOf64 D
-path-of-64 D none s x x′ sides l z n =
+path-of-64 D s x x′ sides l z n f f′ =
     omega (
       arith,
       cost-append (foldForms D x′ sides l) (foldForms D x sides l),
-      fold-cost D none x sides l (z .0) (z .1 .1),
-      fold-cost D none x′ sides l (z .1 .0) (z .1 .1),
+      fold-cost D x sides l (z .0) (z .1 .1) f,
+      fold-cost D x′ sides l (z .1 .0) (z .1 .1) f′,
     )
 
 -- 65 is above 64, whatever the sides say, and 65 siblings make more than 4,244 digits
@@ -88,4 +116,4 @@ unfolding isDigit valueOf digitOf lineOf kinds known fits requestOf be64 answerT
 run D = refl and refl and refl and refl and refl and refl and refl and refl and refl and tt
 
 pub by-hand : ByHand
-by-hand = record { rows = rows; path = path-of-64; edges = edges; run = run }
+by-hand = record { rows = rows; gap-of-one = gap-of-one; path = path-of-64; edges = edges; run = run }

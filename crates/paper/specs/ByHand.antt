@@ -4,13 +4,15 @@ use mathlib.Core.Bool.{Bool, true, false}
 use mathlib.Core.Path.{_≡_}
 use mathlib.Core.List.{List, [], _∷_, _++_}
 use Prim.Native.Nat.{ℕ, _+_, _*_}
+use lib.Dec.{eqb}
 use lib.ListN.{length, getD, replicate}
+use Rattle.seqs.specs.Choose.{opposite}
 use Rattle.sha256.specs.Padding.{blocks}
 use Rattle.seqs.specs.Bytes.{allZero}
 use Rattle.hex.specs.Hex.{allDigits, bytesOf, digitsOf}
 use Rattle.paper.specs.declared.Record.{Record}
 use Rattle.paper.specs.declared.Registers.{Registers}
-use Rattle.paper.specs.Strings.{Dig, nought, Str, leaf, node, entry, memo, u1, v1, u2, ei, lengthOf, cost, malformed, inGap, recordHash, H}
+use Rattle.paper.specs.Strings.{Dig, nought, Str, leaf, node, entry, memo, u1, v1, u2, ei, lengthOf, cost, malformed, inGap, digest, recordHash, H, foldForms}
 use Rattle.paper.specs.Requests.{path, kindOf}
 use Rattle.paper.specs.Refusals.{roomFor, replyRoom}
 use Rattle.paper.specs.Answers.{answer}
@@ -87,14 +89,18 @@ abbrev pub EveryRow : (D : List ℕ → Dig) → List Row → Type 0
 EveryRow D [] = Unit {0}
 EveryRow D (r ∷ l) = Says D r × EveryRow D l
 
--- "A path of 64 may cost 259": it does where no digest and no sibling is zero, whatever the sides
+-- "A path of 64 may cost 259": it does where no digest carried and no digest formed on the way up is zero, whatever the sides
 abbrev pub NoneZero : List Dig → Type 0
 NoneZero [] = Unit {0}
 NoneZero (d ∷ l) = (allZero d ≡ false) × NoneZero l
 
+abbrev pub NoZeroDigest : (D : List ℕ → Dig) → List Str → Type 0
+NoZeroDigest D [] = Unit {0}
+NoZeroDigest D (s ∷ l) = (allZero (digest D s) ≡ false) × NoZeroDigest D l
+
 abbrev pub PathOf64 : (D : List ℕ → Dig) → Type 0
-PathOf64 D = ((m : List ℕ) → allZero (D m) ≡ false)
-    → (s : Registers) (x x′ : Dig) (sides : ℕ) (l : List Dig) → NoneZero (x ∷ x′ ∷ l) → length l ≡ 64
+PathOf64 D = (s : Registers) (x x′ : Dig) (sides : ℕ) (l : List Dig) → NoneZero (x ∷ x′ ∷ l) → length l ≡ 64
+    → NoZeroDigest D (foldForms D x sides l) → NoZeroDigest D (foldForms D x′ sides l)
     → cost (answer D s (path x x′ sides l) .forms) ≡ 259
 
 -- "n = 65 in a frame of 2,122 bytes gets 3, with all its 65 siblings the line is too long and gets 1"
@@ -140,6 +146,8 @@ Runs D s (turn line reply ∷ l) =
 
 pub record ByHand : Type 1 where
   pub rows : (D : List ℕ → Dig) (u : Dig) → EveryRow D (table u)
+  -- "So with A = A', every number but A."
+  pub gap-of-one : (q A : ℕ) → eqb q 0 ≡ false → inGap q A A ≡ opposite (eqb q A)
   pub path : (D : List ℕ → Dig) → PathOf64 D
   pub edges : (D : List ℕ → Dig) (s : Registers) (l : List ℕ) → EdgesOf65 D s l
   pub run : (D : List ℕ → Dig) → Runs D (unopened nought) wholeRun

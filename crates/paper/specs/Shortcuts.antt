@@ -9,8 +9,8 @@ use lib.ListN.{drop}
 use Rattle.seqs.specs.Bytes.{same}
 use Rattle.paper.specs.declared.Record.{Record}
 use Rattle.paper.specs.declared.Registers.{Registers}
-use Rattle.paper.specs.Strings.{Dig, nought, ei, memo, digest, malformed, inGap}
-use Rattle.paper.specs.Requests.{Request, first, place, adopt, ask}
+use Rattle.paper.specs.Strings.{Dig, nought, u1, ei, memo, digest, malformed, inGap}
+use Rattle.paper.specs.Requests.{Request, join, first, place, adopt, ask}
 use Rattle.paper.specs.Refusals.{order, needs, judge}
 use Rattle.paper.specs.Answers.{answer}
 use Rattle.paper.specs.Module.{refusalOf}
@@ -29,6 +29,10 @@ module _ (D : List ℕ → Dig) where
     pub malformed-refused : (s : Registers) (q A A′ : ℕ) (r : Record) (y m : Dig) → s .opened ≡ true
         → eqb q 0 ≡ false → eqb A 0 ≡ false → eqb A′ 0 ≡ false → malformed r ≡ true
         → refusalFor s (ask q A A′ r y m) ≡ 5
+    -- "Joining when only the old halves meet; y' must meet as well": m1 fits, and m2 is not U1(y,z,y',z')
+    pub halves-meet : (s : Registers) (x y x′ y′ z z′ m2 : Dig) → s .opened ≡ true
+        → same (digest D (memo (u1 y z y′ z′) (s .secret))) m2 ≡ false
+        → refusalFor s (join x y x′ y′ (digest D (memo (u1 x y x′ y′) (s .secret))) z z′ m2) ≡ 9
     -- "Reading an all-zero memorandum as "none given""
     pub zero-given : (s : Registers) (y y′ : Dig) → s .opened ≡ true → same (digest D (memo (ei y y′) (s .secret))) nought ≡ false
         → refusalFor s (adopt y y′ nought) ≡ 8
