@@ -5,7 +5,8 @@ use mathlib.Core.Bool.{Bool, true, false}
 use mathlib.Core.Logic.{_⊎_, inl, inr}
 use Prim.Native.Nat.{ℕ, zero, suc, _≤_}
 use native.Mathlib.Omega.{arith}
-use lib.ListN.{length, drop, replicate}
+use native.Mathlib.Decide.{decLe}
+use lib.ListN.{length, drop, replicate, length-append, length-drop}
 use lib.Seq.{drop-at, take-all}
 use Rattle.seqs.specs.Bytes.{Bytes, allZero, be64}
 use Rattle.sha256.specs.Hash.{sha256}
@@ -19,13 +20,15 @@ use Rattle.paper.specs.Refusals.{Check, order, replyRoom, isHex, Verdict, refus
 use Rattle.paper.specs.Module.{Told, told, answerFrame, checksOf, answerTo, replyLine}
 use Rattle.paper.specs.Strings.{Dig, cost}
 use Rattle.paper.proofs.Verdicts.{firstOf, number-is, first-given, first-only, passed-none}
+use Rattle.paper.specs.ByHand.{Room}
+use Rattle.paper.proofs.Room.{room}
 use Rattle.paper.proofs.Ceilings.{ceilings}
 use Rattle.paper.proofs.Older.{older-gets-8}
 use Rattle.module.proofs.Laws.{with-room, is-hex}
 use Rattle.module.specs.declared.Answered.{Answered}
 use Rattle.module.specs.declared.Replied.{Replied}
 use Rattle.module.specs.Answering.{answeredOf}
-use Rattle.module.specs.Laws.{RefusalKeeps, RefusalIsFirst, OnlyTheReply, OneOutcome, OneOutcomeHere, UnderTheCeiling, OlderMemorandum, Opens, RefusingBreaks}
+use Rattle.module.specs.Laws.{RefusalKeeps, RefusalIsFirst, OnlyTheReply, ReplyFits, OneOutcome, OneOutcomeHere, UnderTheCeiling, OlderMemorandum, Opens, RefusingBreaks}
 
 -- what comes back beside the registers
 abbrev repliedOf : Answered → Replied
@@ -75,6 +78,31 @@ only-the-reply s line space after o p =
     ap (drop (o .length)) (p .left)
     ∙ drop-at (replyLine t) (drop (length (replyLine t)) space) (o .length) (sym n)
     ∙ ap (λ (k : ℕ). drop k space) (sym n)
+
+pub reply-fits : ReplyFits
+reply-fits s line space after o p = by-room (decLe 195 (length space))
+  where
+    t : Told
+    t = answerTo sha256 s line (length space)
+
+    r : Room sha256 s line
+    r = room sha256 sha256-length s line
+
+    nothing : t .refusal ≡ 15 → length (replyLine t) ≡ 0
+    nothing e = rw e refl
+
+    all : length (replyLine t) ≤ length space
+        → (o .length ≤ replyRoom) × (o .length ≤ length space) × (length after ≡ length space)
+    all h =
+        let n : o .length ≡ length (replyLine t) = ap (λ (x : Answered). x .length) (p .returned) in
+        let m : length after ≡ length (replyLine t ++ drop (length (replyLine t)) space) = ap length (p .left) in
+        let sum = length-append (replyLine t) (drop (length (replyLine t)) space) in
+        let rest = length-drop (length (replyLine t)) space in
+        (omega (arith, r .holds (length space)), omega arith, omega arith)
+
+    by-room : Dec (195 ≤ length space) → (o .length ≤ replyRoom) × (o .length ≤ length space) × (length after ≡ length space)
+    by-room (yes h) = all (omega (arith, r .holds (length space)))
+    by-room (no h) = all (omega (arith, nothing (r .too-small (length space) (omega (arith, h)))))
 
 pub one-outcome : OneOutcome
 one-outcome s line space after after′ o o′ p p′ = (p .returned ∙ sym (p′ .returned), p .left ∙ sym (p′ .left))

@@ -4,7 +4,7 @@ use mathlib.Core.Bool.{Bool, true, false, true≢false}
 use mathlib.Core.List.{List, [], _∷_, _++_}
 use Prim.Native.Nat.{ℕ, _+_, _-_, _*_, _≤_, _<_}
 use native.Mathlib.Omega.{arith}
-use borrow.Author.Tests.{eqb-true, eqb-false, lt-ltb, le-ltb, le-leb}
+use borrow.Author.Tests.{ne-eqb, eqb-true, eqb-false, lt-ltb, le-ltb, le-leb}
 use native.Mathlib.Decide.{decLe}
 use denote.Enum.Declared.{tagOf}
 use lib.Dec.{eqb}
@@ -13,15 +13,16 @@ use lib.Seq.{take-at}
 use Rattle.seqs.specs.Choose.{pick}
 use Rattle.seqs.specs.Over.{written, written-fits}
 use Rattle.sha256.specs.Hash.{sha256}
+use Rattle.sha256.proofs.Digests.{sha256-length}
 use Rattle.hex.specs.Hex.{bytesOf, lineOf}
 use Rattle.hex.proofs.Laws.{bytes-length, line-length}
 use Rattle.paper.specs.declared.Registers.{Registers}
-use Rattle.paper.specs.Strings.{Str}
 use Rattle.paper.specs.Requests as Q
 use Rattle.paper.specs.Requests.{kindOf, requestOf}
-use Rattle.paper.specs.Refusals.{Check, order, roomFor, isHex, needs, applies, formedAt, Verdict, refused, judge}
+use Rattle.paper.specs.Refusals.{isHex, Verdict, refused, judge}
 use Rattle.paper.specs.Module.{refusalOf, frameChecks, readRefusal, Told, told, answerFrame, answerTo, replyLine, spaceAfter}
 use Rattle.paper.proofs.Early.{none-early}
+use Rattle.paper.proofs.Room.{room}
 use Rattle.lines.specs.declared.Read.{Read}
 use Rattle.lines.specs.declared.Read.the-variants.{Frame, Refused}
 use Rattle.lines.proofs.Read.{the-type}
@@ -142,39 +143,8 @@ module _ (s : Registers) (line : List ℕ) where
 
 -- ── the reply's line ──
 
--- no number but 15 is told as 15
-abbrev notAmong : ℕ → List ℕ → Bool
-notAmong m [] = true
-notAmong m (i ∷ l) = pick (eqb i m) false (notAmong m l)
-
-both-of : (a b : Bool) → pick a false b ≡ true → (pick a false true ≡ true) × (b ≡ true)
-both-of true b h = absurd (true≢false (sym h))
-both-of false b h = (refl, h)
-
-module _ (s : Registers) (k : ℕ) (q : Q.Request) where
-  abbrev number : Verdict → ℕ
-  number v = told sha256 s k q v .refusal
-
-  never-step : (i : ℕ) (fs : List Str) (v : Verdict) (b c : Bool) → eqb i 15 ≡ c → pick c false true ≡ true
-      → eqb (number v) 15 ≡ false → eqb (number (pick b (refused i fs) v)) 15 ≡ false
-  never-step i fs v true true e h r = absurd (true≢false (sym h))
-  never-step i fs v true false e h r = e
-  never-step i fs v false c e h r = r
-
-  never : (ns : List ℕ) (fs : List Str) (cs : List Check) → notAmong 15 ns ≡ true → eqb (number (judge ns fs cs)) 15 ≡ false
-  never [] fs cs h = refl
-  never (i ∷ ns) fs cs h =
-      let p = both-of (eqb i 15) (notAmong 15 ns) h in
-      never-step i (formedAt i cs ++ fs) (judge ns (formedAt i cs ++ fs) cs) (applies i cs) (eqb i 15) refl (p .0)
-      (never ns (formedAt i cs ++ fs) cs (p .1))
-
 pub not-15 : (s : Registers) (line : List ℕ) → eqb (answerTo sha256 s line 195 .refusal) 15 ≡ false
-unfolding answerTo
-not-15 s line =
-    let f = bytesOf line in
-    let q = requestOf f in
-    rw (none-early sha256 s q .of-15) (never s (kindOf f) q (drop 1 order) []
-    (roomFor 195 195 ∷ isHex line ∷ (frameChecks f ++ needs sha256 s q)) refl)
+not-15 s line = ne-eqb _ 15 (room sha256 sha256-length s line .enough 195 (omega arith))
 
 module _ (t : Told) (o : Outcome) (e : o ≡ outcomeOf t) (long : length (o .reply) ≡ 97) where
   -- the reply lies whole in the outcome's bytes

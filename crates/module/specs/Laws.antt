@@ -25,7 +25,7 @@ pub record Promised (s : Registers) (line space : List ℕ) (o : Answered) (afte
   pub returned : o ≡ answeredOf (answerTo sha256 s line (length space))
   pub left : after ≡ spaceAfter (answerTo sha256 s line (length space)) space
 
--- demand 1: "a refusal changes nothing but the reply's own bytes": root, counter, secret and open are as they were
+-- demand 1: "After it root, counter and secret are unchanged", and so is whether the module is open
 abbrev pub RefusalKeeps : Type 0
 RefusalKeeps = (s : Registers) (line space after : List ℕ) (o : Answered) → Promised s line space o after
     → (o .refused ≡ 0 → ⊥) → o .registers ≡ s
@@ -45,6 +45,11 @@ RefusalIsFirst = (s : Registers) (line space after : List ℕ) (o : Answered) �
 abbrev pub OnlyTheReply : Type 0
 OnlyTheReply = (s : Registers) (line space after : List ℕ) (o : Answered) → Promised s line space o after
     → drop (o .length) after ≡ drop (o .length) space
+
+-- the reply's line has at most 195 bytes and lies in the space, which keeps its length
+abbrev pub ReplyFits : Type 0
+ReplyFits = (s : Registers) (line space after : List ℕ) (o : Answered) → Promised s line space o after
+    → (o .length ≤ replyRoom) × (o .length ≤ length space) × (length after ≡ length space)
 
 -- "two outcomes allowed by the same statement are equal"
 abbrev pub OneOutcome : Type 0

@@ -19,14 +19,14 @@ use Rattle.paper.specs.Module.{unopened, answerTo}
 use Rattle.paper.proofs.Frames.{fits-path}
 use Rattle.paper.proofs.Ceilings.{cost-append}
 use Rattle.paper.proofs.Early.{none-early}
+use Rattle.paper.proofs.Room.{room}
 use Rattle.paper.specs.ByHand.{ByHand, NoneZero, NoZeroDigest, PathOf64, EdgesOf65, EveryRow, table, Runs, wholeRun}
 
 rows : (D : List ℕ → Dig) (u : Dig) → EveryRow D (table u)
 unfolding inGap H recordHash malformed
 rows D u =
     refl and refl and refl and refl and refl and refl and refl and refl and refl and refl and refl and refl and refl
-    and refl and refl and refl and refl and refl and refl and refl and refl and refl and refl and refl and refl and refl
-    and tt
+    and refl and refl and refl and refl and refl and refl and refl and refl and refl and refl and refl and tt
 
 -- q above, below or equal to A
 gap-of-one : (q A : ℕ) → eqb q 0 ≡ false → inGap q A A ≡ opposite (eqb q A)
@@ -116,4 +116,4 @@ unfolding isDigit valueOf digitOf lineOf kinds known fits requestOf be64 answerT
 run D = refl and refl and refl and refl and refl and refl and refl and refl and refl and tt
 
 pub by-hand : ByHand
-by-hand = record { rows = rows; gap-of-one = gap-of-one; path = path-of-64; edges = edges; run = run }
+by-hand = record { rows = rows; gap-of-one = gap-of-one; path = path-of-64; room = room; edges = edges; run = run }

@@ -4,5 +4,6 @@ pub mod Early
 pub mod Encoding
 pub mod Frames
 pub mod Older
+pub mod Room
 pub mod Shortcuts
 pub mod Verdicts

@@ -3,7 +3,7 @@
 use mathlib.Core.Bool.{Bool, true, false}
 use mathlib.Core.Path.{_≡_}
 use mathlib.Core.List.{List, [], _∷_, _++_}
-use Prim.Native.Nat.{ℕ, _+_, _*_}
+use Prim.Native.Nat.{ℕ, _+_, _*_, _≤_}
 use lib.Dec.{eqb}
 use lib.ListN.{length, getD, replicate}
 use Rattle.seqs.specs.Choose.{opposite}
@@ -14,7 +14,7 @@ use Rattle.paper.specs.declared.Record.{Record}
 use Rattle.paper.specs.declared.Registers.{Registers}
 use Rattle.paper.specs.Strings.{Dig, nought, Str, leaf, node, entry, memo, u1, v1, u2, ei, lengthOf, cost, malformed, inGap, digest, recordHash, H, foldForms}
 use Rattle.paper.specs.Requests.{path, kindOf}
-use Rattle.paper.specs.Refusals.{roomFor, replyRoom}
+use Rattle.paper.specs.Refusals.{replyRoom}
 use Rattle.paper.specs.Answers.{answer}
 use Rattle.paper.specs.Module.{unopened, answerTo, replyLine}
 
@@ -35,7 +35,6 @@ pub data Row : Type 0 where
   bad : Record → (is : Bool) → Row
   count : (bytes : ℕ) → (many : ℕ) → Row
   bytes : Str → (long : ℕ) → Row
-  space : (room : ℕ) → (short : Bool) → Row
 
 abbrev pub Says : (D : List ℕ → Dig) → Row → Type 0
 Says D (gap A A′ q lies) = inGap q A A′ ≡ lies
@@ -44,7 +43,6 @@ Says D (hash r d) = recordHash D r ≡ d
 Says D (bad r is) = malformed r ≡ is
 Says D (count n k) = blocks n ≡ k
 Says D (bytes s n) = lengthOf s ≡ n
-Says D (space n short) = roomFor replyRoom n .fails ≡ short
 
 -- the table, for any u
 abbrev pub table : (u : Dig) → List Row
@@ -72,9 +70,6 @@ table u =
     ∷ count 65 2
     ∷ count 161 3
     ∷ count 225 4
-    -- "Replies of 194 bytes of space get 15, 195 do."
-    ∷ space 194 true
-    ∷ space 195 false
     -- the column "length" of the table of strings
     ∷ bytes (leaf 0 0 u) 49
     ∷ bytes (node u u) 65
@@ -102,6 +97,12 @@ abbrev pub PathOf64 : (D : List ℕ → Dig) → Type 0
 PathOf64 D = (s : Registers) (x x′ : Dig) (sides : ℕ) (l : List Dig) → NoneZero (x ∷ x′ ∷ l) → length l ≡ 64
     → NoZeroDigest D (foldForms D x sides l) → NoZeroDigest D (foldForms D x′ sides l)
     → cost (answer D s (path x x′ sides l) .forms) ≡ 259
+
+-- "Replies of 194 bytes of space get 15, 195 do.": 195 hold the longest reply's line, with its 0A
+pub record Room (D : List ℕ → Dig) (s : Registers) (line : List ℕ) : Type 0 where
+  pub too-small : (space : ℕ) → space ≤ 194 → answerTo D s line space .refusal ≡ 15
+  pub enough : (space : ℕ) → 195 ≤ space → answerTo D s line space .refusal ≡ 15 → ⊥
+  pub holds : (space : ℕ) → length (replyLine (answerTo D s line space)) ≤ 195
 
 -- "n = 65 in a frame of 2,122 bytes gets 3, with all its 65 siblings the line is too long and gets 1"
 pub record EdgesOf65 (D : List ℕ → Dig) (s : Registers) (l : List ℕ) : Type 0 where
@@ -149,5 +150,6 @@ pub record ByHand : Type 1 where
   -- "So with A = A', every number but A."
   pub gap-of-one : (q A : ℕ) → eqb q 0 ≡ false → inGap q A A ≡ opposite (eqb q A)
   pub path : (D : List ℕ → Dig) → PathOf64 D
+  pub room : (D : List ℕ → Dig) → ((l : List ℕ) → length (D l) ≡ 32) → (s : Registers) (line : List ℕ) → Room D s line
   pub edges : (D : List ℕ → Dig) (s : Registers) (l : List ℕ) → EdgesOf65 D s l
   pub run : (D : List ℕ → Dig) → Runs D (unopened nought) wholeRun
