@@ -42,7 +42,7 @@ findingOf q A A′ r =
     (pick (blank r) (Listed (record { 0 = A })) (Recorded (record { 0 = A }) r))
     (Gap (record { 0 = A }) (record { 0 = A′ }))
 
--- "the first number one byte: 1, A, record; 2, A; 3, A, A'"
+-- "the first number one byte: 1, A, record; 2, A (listed, no record; q = A); 3, A, A' (q in the gap)"
 abbrev pub findingBytes : Finding → List ℕ
 findingBytes (Recorded A r) = 1 ∷ spread (nums (A .0 ∷ numbers r))
 findingBytes (Listed A) = 2 ∷ spread (nums (A .0 ∷ []))

@@ -139,7 +139,8 @@ kindOf f = getD f 0 0
 unfoldable pub known : ℕ → Bool
 known k = both (leb 1 k) (leb k (length kinds))
 
--- a kind that is not in the table has no row; what stands here for it is never looked at, since 2 comes first
+-- a kind that is not in the table has no row; what stands here for it (for kind 0, the row of 01) decides nothing, since 2
+-- comes first
 abbrev pub rowOf : ℕ → Kind
 rowOf k = getD kinds (k - 1) (record { carries = []; reads = λ p. unlock [] })
 

@@ -28,7 +28,8 @@ module _ {R : Type 0} where
 
   -- ── changes ──
 
-  -- an item more, before the first of a greater number ("first adds an empty item")
+  -- an item more, before the first of a greater number ("first adds an empty item"). Of a listed number it would make a second
+  -- one: that no run comes to that before it ends is `LegalEffect` of `runs`
   unfoldable pub insert : (A : ℕ) → R → List (Item R) → List (Item R)
   insert A r [] = item A r ∷ []
   insert A r (item a s ∷ l) = pick (ltb A a) (item A r ∷ item a s ∷ l) (item a s ∷ insert A r l)

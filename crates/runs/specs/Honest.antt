@@ -39,7 +39,8 @@ abbrev pub turned : Edit → Edit
 turned y = record { was = y .becomes; becomes = y .was }
 
 module _ (D : List ℕ → Dig) (s : Registers) where
-  -- the memorandum that says t, as this module issues it
+  -- the memorandum that says t, as this module issues it. A tablet has no secret: it copies the memorandum out of the reply
+  -- that issued it, and that one did is `AllIssued`
   abbrev pub note : Memo → Dig
   note t = digest D (memo t (s .secret))
 
