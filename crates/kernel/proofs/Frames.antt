@@ -3,9 +3,10 @@
 use mathlib.Core.Path.{_≡_, refl, sym, ap, ap₂, _∙_}
 use mathlib.Core.Bool.{Bool, true, false}
 use mathlib.Core.List.{List, [], _∷_, _++_}
-use Prim.Native.Nat.{ℕ, _+_, _*_, _≤_, _<_}
+use Prim.Native.Nat.{ℕ, zero, suc, _+_, _*_, _≤_, _<_}
 use native.Mathlib.Omega.{arith}
-use borrow.Author.Tests.{eqb-true, leb-true}
+use borrow.Author.Tests.{leb-true}
+use lib.Dec.{eqb, leb}
 use lib.ListN.{length, getD, drop}
 use Rattle.seqs.specs.Choose.{pick, both-true, opposite}
 use Rattle.sha256.specs.Hash.{sha256}
@@ -19,35 +20,34 @@ use Rattle.paper.proofs.Frames as F
 use Rattle.lines.proofs.Fitting.{frame-by}
 use Rattle.replies.specs.declared.Outcome.{Outcome}
 use Rattle.replies.specs.Outcomes.{outcome, outcomeOf, refusal}
+use Rattle.kernel.specs.Places.{requestAt}
+use Rattle.kernel.proofs.Places.{there}
 
--- ── a frame that fits has the length of its kind ──
+-- ── a frame that fits ──
 
 module _ (f : List ℕ) (ok : fits f ≡ true) where
-  length-of : (k long : ℕ) → kindOf f ≡ k → 1 < k → getD F.lengths k 1 ≡ long → length f ≡ long
-  length-of k long e h t =
-      eqb-true (length f) (getD F.lengths (kindOf f) 1) (sym (F.fits-other f (omega arith)) ∙ ok)
-      ∙ ap (λ (i : ℕ). getD F.lengths i 1) e ∙ t
-
-  -- a request that lies in such a frame is the frame's
-  pub arrived : (k long : ℕ) (q : Q.Request) (s : Registers) (o : Outcome)
-      → kindOf f ≡ k → 1 < k → getD F.lengths k 1 ≡ long → (kindOf f ≡ k → length f ≡ long → requestOf f ≡ q) → o ≡ outcome s k q
+  -- what answers the request that lies in it answers it
+  pub arrived : (k : ℕ) (s : Registers) (o : Outcome) → kindOf f ≡ k → o ≡ outcome s k (requestAt k f)
       → o ≡ outcome s (kindOf f) (requestOf f)
-  arrived k long q s o e h t there g = g ∙ sym (ap₂ (outcome s) e (there e (length-of k long e h t)))
+  arrived k s o e g =
+      g ∙ ap (λ (n : ℕ). outcome s n (requestAt n f)) (sym e) ∙ ap (outcome s (kindOf f)) (sym (there f ok))
 
-  -- a path's n, and its length by it
-  pub path-fits : kindOf f ≡ 1 → (length f ≡ 74 + 32 * getD f 65 0) × (getD f 65 0 ≤ 64)
-  path-fits e =
-      let p = both-true _ _ (sym (F.fits-path f e) ∙ ok) in
-      let n = both-true _ _ (p .1) in
-      (eqb-true (length f) (74 + 32 * getD f 65 0) (p .0), leb-true (getD f 65 0) 64 (n .0))
+  -- a path's n
+  pub few-siblings : kindOf f ≡ 1 → getD f 65 0 ≤ 64
+  few-siblings e =
+      let fit = both-true (eqb (length f) (74 + 32 * getD f 65 0)) _ (sym (F.fits-path f e) ∙ ok) in
+      leb-true (getD f 65 0) 64 (both-true (leb (getD f 65 0) 64) _ (fit .1) .0)
 
 -- ── no kind beside the sixteen ──
 
-pub past : (k n : ℕ) → n ≤ k → (k ≡ n → ⊥) → n < k
-past k n h ne = omega (arith, ne)
+-- not a number from 1 to n
+abbrev pub Beside : (k n : ℕ) → Type 0
+Beside k zero = Unit {0}
+Beside k (suc n) = Beside k n × (k ≡ suc n → ⊥)
 
-pub not-below : (k : ℕ) → 16 < k → k ≤ 16 → ⊥
-not-below k h g = omega arith
+pub beyond : (k n : ℕ) → Beside k n → 1 ≤ k → n < k
+beyond k zero b h = h
+beyond k (suc n) b h = let past : n < k = beyond k n (b .0) h in let ne = b .1 in omega (arith, ne)
 
 -- ── checks 2 and 3, then those of the request ──
 

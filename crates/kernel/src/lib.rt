@@ -10,23 +10,24 @@ use paper::Rigging;
 use replies::Outcome;
 ghost use mathlib.Core.Bool.{true};
 ghost use mathlib.Core.Path.{_≡_};
-ghost use Prim.Native.Nat.{_≤_};
+ghost use Prim.Native.Nat.{_*_, _≤_};
 ghost use lib.ListN.{getD, take};
 ghost use Rattle.sha256.specs.Hash.{sha256};
-ghost use Rattle.paper.specs.Requests.{kindOf, known, fits, requestOf};
+ghost use Rattle.seqs.specs.Bytes.{numberOf};
+ghost use Rattle.paper.specs.Requests.{recordIn, digestsIn, kindOf, known, fits, requestOf};
 ghost use Rattle.paper.specs.Module.{answerFrame};
 ghost use Rattle.replies.specs.Outcomes.{outcomeOf, outcome};
 ghost use Rattle.kernel.specs.Places as At;
 
 fn item_at(f: &[u8], at: usize) -> Item
-    ensures { λ r. ⌜ r ≡ At.itemAt (now (f .entry)) at ⌝ }
+    ensures { λ r. ⌜ r .0 ≡ numberOf (At.bytesAt (now (f .entry)) at 8) ⌝ }
 {
     Item(fields::number_at(f, at))
 }
 
 fn record_at(f: &[u8], at: usize) -> Record
     requires { ⌜ at ≤ 2122 ⌝ }
-    ensures { λ r. ⌜ r ≡ At.recordAt (now (f .entry)) at ⌝ }
+    ensures { λ r. ⌜ r ≡ recordIn (At.bytesAt (now (f .entry)) at 32) ⌝ }
 {
     Record {
         revision: Revision(fields::number_at(f, at)),
@@ -39,7 +40,7 @@ fn record_at(f: &[u8], at: usize) -> Record
 // The n siblings of a path over the front of the array.
 fn siblings(f: &[u8], n: usize) -> [[u8; 32]; 64]
     requires { ⌜ n ≤ 64 ⌝ }
-    ensures { λ r. ⌜ take n r ≡ At.siblingsAt (now (f .entry)) 74 n ⌝ }
+    ensures { λ r. ⌜ take n r ≡ digestsIn n (At.bytesAt (now (f .entry)) 74 (32 * n)) ⌝ }
 {
     let mut out = [[0u8; 32]; 64];
     let mut i: usize = 0;
@@ -53,7 +54,7 @@ fn siblings(f: &[u8], n: usize) -> [[u8; 32]; 64]
 
 fn path(r: Registers, f: &[u8]) -> Outcome
     requires { ⌜ getD (now f) 65 0 ≤ 64 ⌝ }
-    ensures { λ o. ⌜ o ≡ outcome r 1 (At.pathAt (now (f .entry))) ⌝ }
+    ensures { λ o. ⌜ o ≡ outcome r 1 (At.requestAt 1 (now (f .entry))) ⌝ }
 {
     let n = fields::byte_at(f, 65) as usize;
     let s = siblings(f, n);
@@ -68,7 +69,7 @@ fn path(r: Registers, f: &[u8]) -> Outcome
 }
 
 fn witness(r: Registers, f: &[u8]) -> Outcome
-    ensures { λ o. ⌜ o ≡ outcome r 2 (At.witnessAt (now (f .entry))) ⌝ }
+    ensures { λ o. ⌜ o ≡ outcome r 2 (At.requestAt 2 (now (f .entry))) ⌝ }
 {
     tree_kinds::witness(
         r,
@@ -79,7 +80,7 @@ fn witness(r: Registers, f: &[u8]) -> Outcome
 }
 
 fn join(r: Registers, f: &[u8]) -> Outcome
-    ensures { λ o. ⌜ o ≡ outcome r 3 (At.joinAt (now (f .entry))) ⌝ }
+    ensures { λ o. ⌜ o ≡ outcome r 3 (At.requestAt 3 (now (f .entry))) ⌝ }
 {
     tree_kinds::join(
         r,
@@ -95,7 +96,7 @@ fn join(r: Registers, f: &[u8]) -> Outcome
 }
 
 fn pair(r: Registers, f: &[u8]) -> Outcome
-    ensures { λ o. ⌜ o ≡ outcome r 4 (At.pairAt (now (f .entry))) ⌝ }
+    ensures { λ o. ⌜ o ≡ outcome r 4 (At.requestAt 4 (now (f .entry))) ⌝ }
 {
     tree_kinds::pair(
         r,
@@ -113,7 +114,7 @@ fn pair(r: Registers, f: &[u8]) -> Outcome
 }
 
 fn raise(r: Registers, f: &[u8]) -> Outcome
-    ensures { λ o. ⌜ o ≡ outcome r 5 (At.raiseAt (now (f .entry))) ⌝ }
+    ensures { λ o. ⌜ o ≡ outcome r 5 (At.requestAt 5 (now (f .entry))) ⌝ }
 {
     tree_kinds::raise(
         r,
@@ -131,7 +132,7 @@ fn raise(r: Registers, f: &[u8]) -> Outcome
 }
 
 fn swap(r: Registers, f: &[u8]) -> Outcome
-    ensures { λ o. ⌜ o ≡ outcome r 6 (At.swapAt (now (f .entry))) ⌝ }
+    ensures { λ o. ⌜ o ≡ outcome r 6 (At.requestAt 6 (now (f .entry))) ⌝ }
 {
     ring_kinds::swap(
         r,
@@ -144,13 +145,13 @@ fn swap(r: Registers, f: &[u8]) -> Outcome
 }
 
 fn first(r: Registers, f: &[u8]) -> Outcome
-    ensures { λ o. ⌜ o ≡ outcome r 7 (At.firstAt (now (f .entry))) ⌝ }
+    ensures { λ o. ⌜ o ≡ outcome r 7 (At.requestAt 7 (now (f .entry))) ⌝ }
 {
     ring_kinds::first(r, item_at(f, 1))
 }
 
 fn place(r: Registers, f: &[u8]) -> Outcome
-    ensures { λ o. ⌜ o ≡ outcome r 8 (At.placeAt (now (f .entry))) ⌝ }
+    ensures { λ o. ⌜ o ≡ outcome r 8 (At.requestAt 8 (now (f .entry))) ⌝ }
 {
     ring_kinds::place(
         r,
@@ -165,7 +166,7 @@ fn place(r: Registers, f: &[u8]) -> Outcome
 }
 
 fn turn(r: Registers, f: &[u8]) -> Outcome
-    ensures { λ o. ⌜ o ≡ outcome r 9 (At.turnAt (now (f .entry))) ⌝ }
+    ensures { λ o. ⌜ o ≡ outcome r 9 (At.requestAt 9 (now (f .entry))) ⌝ }
 {
     ring_kinds::turn(
         r,
@@ -176,7 +177,7 @@ fn turn(r: Registers, f: &[u8]) -> Outcome
 }
 
 fn chain(r: Registers, f: &[u8]) -> Outcome
-    ensures { λ o. ⌜ o ≡ outcome r 10 (At.chainAt (now (f .entry))) ⌝ }
+    ensures { λ o. ⌜ o ≡ outcome r 10 (At.requestAt 10 (now (f .entry))) ⌝ }
 {
     ring_kinds::chain(
         r,
@@ -189,7 +190,7 @@ fn chain(r: Registers, f: &[u8]) -> Outcome
 }
 
 fn adopt(r: Registers, f: &[u8]) -> Outcome
-    ensures { λ o. ⌜ o ≡ outcome r 11 (At.adoptAt (now (f .entry))) ⌝ }
+    ensures { λ o. ⌜ o ≡ outcome r 11 (At.requestAt 11 (now (f .entry))) ⌝ }
 {
     list_kinds::adopt(
         r,
@@ -200,7 +201,7 @@ fn adopt(r: Registers, f: &[u8]) -> Outcome
 }
 
 fn set_record(r: Registers, f: &[u8]) -> Outcome
-    ensures { λ o. ⌜ o ≡ outcome r 12 (At.setRecordAt (now (f .entry))) ⌝ }
+    ensures { λ o. ⌜ o ≡ outcome r 12 (At.requestAt 12 (now (f .entry))) ⌝ }
 {
     list_kinds::set_record(
         r,
@@ -217,7 +218,7 @@ fn set_record(r: Registers, f: &[u8]) -> Outcome
 }
 
 fn clear_record(r: Registers, f: &[u8]) -> Outcome
-    ensures { λ o. ⌜ o ≡ outcome r 13 (At.clearRecordAt (now (f .entry))) ⌝ }
+    ensures { λ o. ⌜ o ≡ outcome r 13 (At.requestAt 13 (now (f .entry))) ⌝ }
 {
     list_kinds::clear_record(
         r,
@@ -231,7 +232,7 @@ fn clear_record(r: Registers, f: &[u8]) -> Outcome
 }
 
 fn ask(r: Registers, f: &[u8]) -> Outcome
-    ensures { λ o. ⌜ o ≡ outcome r 14 (At.askAt (now (f .entry))) ⌝ }
+    ensures { λ o. ⌜ o ≡ outcome r 14 (At.requestAt 14 (now (f .entry))) ⌝ }
 {
     list_kinds::ask(
         r,
@@ -245,13 +246,13 @@ fn ask(r: Registers, f: &[u8]) -> Outcome
 }
 
 fn ask_none(r: Registers, f: &[u8]) -> Outcome
-    ensures { λ o. ⌜ o ≡ outcome r 15 (At.askNoneAt (now (f .entry))) ⌝ }
+    ensures { λ o. ⌜ o ≡ outcome r 15 (At.requestAt 15 (now (f .entry))) ⌝ }
 {
     list_kinds::ask_none(r, item_at(f, 1))
 }
 
 fn unlock(r: Registers, f: &[u8]) -> Outcome
-    ensures { λ o. ⌜ o ≡ outcome r 16 (At.unlockAt (now (f .entry))) ⌝ }
+    ensures { λ o. ⌜ o ≡ outcome r 16 (At.requestAt 16 (now (f .entry))) ⌝ }
 {
     list_kinds::unlock(r, fields::digest_at(f, 1))
 }

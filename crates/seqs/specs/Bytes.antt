@@ -3,13 +3,13 @@ use mathlib.Core.Bool.{Bool, true, false}
 use mathlib.Core.Path.{_≡_, refl, _∙_}
 use mathlib.Core.List.{List, [], _∷_, _++_}
 use Prim.Native.Nat.{ℕ, zero, suc, _+_, _*_, _/_, _%_, _^_, _<_, _≤_}
-use native.Mathlib.Nat.{div-div-eq-div-mul, div-add-mod, mod-eq-of-lt}
+use native.Mathlib.Nat.{add-zero, div-div-eq-div-mul, div-add-mod, mod-eq-of-lt}
 use native.Mathlib.Numerals.{add-one}
 use native.Mathlib.Omega.{arith}
 use borrow.Author.Tests.{eqb-true, eq-eqb}
 use lib.Dec.{eqb}
-use lib.ListN.{length, getD, take, drop, replicate, drop-of-length-le, length-take, length-drop, length-append, length-replicate}
-use lib.Seq.{drop-cons, take-append-le, getD-take, getD-drop}
+use lib.ListN.{length, getD, take, drop, replicate, drop-of-length-le, length-take, length-append, length-replicate}
+use lib.Seq.{drop-cons, getD-take, getD-drop}
 use Rattle.seqs.specs.Choose.{both, both-true}
 
 -- every element is a byte
@@ -119,14 +119,13 @@ number-at s at h =
       z,
     )
 
--- 32 bytes that are there
-pub digest-at : (s : List ℕ) (at : ℕ) → at + 32 ≤ length s → digestAt s at ≡ take 32 (drop at s)
-unfolding digestAt
-digest-at s at h = take-append-le 32 (drop at s) (replicate 32 0) (simp length-drop (omega arith))
+-- as many bytes as asked, from a place on: their count
+pub padded-length : (s : List ℕ) (at w : ℕ) → length (take w (drop at s ++ replicate w 0)) ≡ w
+padded-length s at w = simp (length-take, length-append, length-replicate) (omega arith)
 
 pub digest-at-length : (s : List ℕ) (at : ℕ) → length (digestAt s at) ≡ 32
 unfolding digestAt
-digest-at-length s at = simp (length-take, length-append, length-replicate) (omega arith)
+digest-at-length s at = padded-length s at 32
 
 -- one of them
 zeros : (n i : ℕ) → _≡_ {A = ℕ} (getD (replicate n 0) i 0) 0
@@ -139,10 +138,22 @@ past [] n i = zeros n i
 past (b ∷ l) n zero = refl
 past (b ∷ l) n (suc i) = past l n i
 
+pub padded-byte : (s : List ℕ) (at w i : ℕ) → i < w → getD (take w (drop at s ++ replicate w 0)) i 0 ≡ getD s (at + i) 0
+padded-byte s at w i h = getD-take w (drop at s ++ replicate w 0) i 0 h ∙ past (drop at s) w i ∙ getD-drop at s i 0
+
 pub digest-at-byte : (s : List ℕ) (at i : ℕ) → i < 32 → getD (digestAt s at) i 0 ≡ getD s (at + i) 0
 unfolding digestAt
-digest-at-byte s at i h =
-    getD-take 32 (drop at s ++ replicate 32 0) i 0 h ∙ past (drop at s) 32 i ∙ getD-drop at s i 0
+digest-at-byte s at i h = padded-byte s at 32 i h
+
+-- the number that eight of them are
+pub number-padded : (s : List ℕ) (at : ℕ) → numberOf (take 8 (drop at s ++ replicate 8 0)) ≡ numberAt s at
+unfolding numberAt
+number-padded s at =
+    let l : List ℕ = drop at s ++ replicate 8 0 in
+    let byte : (i : ℕ) → getD l i 0 ≡ getD s (at + i) 0 = λ i. past (drop at s) 8 i ∙ getD-drop at s i 0 in
+    let top : getD l 0 0 ≡ getD s at 0 = simp add-zero at (byte 0) in
+    number-at l 0 (simp (length-append, length-replicate) (omega arith))
+    ∙ (λ i. number8 (top i) (byte 1 i) (byte 2 i) (byte 3 i) (byte 4 i) (byte 5 i) (byte 6 i) (byte 7 i))
 
 pub be64-length : (n : ℕ) → length (be64 n) ≡ 8
 unfolding be64

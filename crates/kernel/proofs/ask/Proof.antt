@@ -1,46 +1,25 @@
 -- The fields are those at their places.
 use mathlib.Core.Path.{_∙_}
+use Rattle.seqs.specs.Bytes.{digestAt}
 use Rattle.paper.specs.Requests as Q
+use Rattle.paper.specs.Requests.{kinds}
 use Rattle.replies.specs.Outcomes.{outcome}
-use Rattle.kernel.specs.Places.{askAt}
+use Rattle.kernel.specs.Places.{requestAt}
+use Rattle.kernel.proofs.Places.{free}
 use borrow.Author.Needs.{needs}
 use Rattle.kernel.proofs.ask.Statement.{statement}
 use Rattle.kernel.proofs.ask.Tie as tie
 
-item-at-requires : tie.Need-item-at-requires
-item-at-requires c κs = search needs
-
-item-at-requires-2 : tie.Need-item-at-requires-2
-item-at-requires-2 c κs = search needs
-
-item-at-requires-3 : tie.Need-item-at-requires-3
-item-at-requires-3 c κs = search needs
-
-record-at-requires : tie.Need-record-at-requires
-record-at-requires c κs = search needs
-
-digest-at-requires : tie.Need-digest-at-requires
-digest-at-requires c κs = search needs
-
-digest-at-requires-2 : tie.Need-digest-at-requires-2
-digest-at-requires-2 c κs = search needs
-
-ask-requires : tie.Need-ask-requires
-ask-requires c κs = search needs
-
 returns : tie.Need-returns
-unfolding askAt
-returns c = c .ask .ensures ∙ (λ i. outcome (c .before .before .before .before .before .before .before .before .args .r) 14 (Q.ask (c .before .before .before .before .before .before .item-at .ensures i .0) (c .before .before .before .before .before .item-at2 .ensures i .0) (c .before .before .before .before .item-at3 .ensures i .0) (c .before .before .before .record-at .ensures i) (c .before .before .digest-at .ensures i) (c .before .digest-at2 .ensures i)))
+unfolding digestAt requestAt kinds
+returns c =
+    let c4 = c .before .before .before in
+    let c1 = c4 .before .before .before in
+    c .ask .ensures
+    ∙ (λ i.
+    outcome (c1 .before .before .args .r) 14
+    (Q.ask (c1 .item-at .ensures i) (c4 .before .before .item-at2 .ensures i) (c4 .before .item-at3 .ensures i)
+    (c4 .record-at .ensures i) (c .before .before .digest-at .ensures i) (c .before .digest-at2 .ensures i)))
 
 pub ask-spec : {M : Type 1} → statement M
-ask-spec =
-    tie.close
-    (tie.spec
-    item-at-requires
-    item-at-requires-2
-    item-at-requires-3
-    record-at-requires
-    digest-at-requires
-    digest-at-requires-2
-    ask-requires
-    returns)
+ask-spec = tie.close (tie.spec free free free (λ c κs. search needs) free free free returns)

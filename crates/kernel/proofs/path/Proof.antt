@@ -1,51 +1,27 @@
 -- The fields are those at their places; the siblings are as many as the frame's byte says.
-use mathlib.Core.Path.{ap, _∙_}
+use mathlib.Core.Path.{_∙_}
+use Rattle.seqs.specs.Bytes.{digestAt}
 use Rattle.paper.specs.Requests as Q
+use Rattle.paper.specs.Requests.{kinds}
 use Rattle.replies.specs.Outcomes.{outcome}
-use Rattle.kernel.specs.Places.{siblingsAt, pathAt}
+use Rattle.kernel.specs.Places.{requestAt}
+use Rattle.kernel.proofs.Places.{free, sides-inside, siblings-inside}
 use borrow.Author.Needs.{needs}
 use Rattle.kernel.proofs.path.Statement.{statement}
 use Rattle.kernel.proofs.path.Tie as tie
 
-byte-at-requires : tie.Need-byte-at-requires
-byte-at-requires c κs = search needs
-
-cast-n : tie.Need-cast-n
-cast-n c = search needs
-
-siblings-requires : tie.Need-siblings-requires
-siblings-requires c κs = search needs
-
-digest-at-requires : tie.Need-digest-at-requires
-digest-at-requires c κs = search needs
-
-digest-at-requires-2 : tie.Need-digest-at-requires-2
-digest-at-requires-2 c κs = search needs
-
-number-at-requires : tie.Need-number-at-requires
-number-at-requires c κs = search needs
-
-path-requires : tie.Need-path-requires
-path-requires c κs = search needs
-
 returns : tie.Need-returns
-unfolding pathAt
+unfolding digestAt requestAt kinds
 returns c =
-    let a = c .before .before .before .before .before .before .before .args in
-    let count = c .before .before .before .before .before .byte-at .ensures in
-    let laid = c .before .before .before .before .siblings .ensures ∙ ap (siblingsAt (a .f .now) 74) count in
+    let c1 = c .before .before .before in
+    let read = c1 .before .before in
+    let a = read .before .before .args in
+    let sides = c .before .number-at .ensures ∙ sides-inside (a .f .now) in
+    let siblings = c1 .before .siblings .ensures ∙ siblings-inside (a .f .now) _ (read .byte-at .ensures) in
     c .path .ensures
-    ∙ (λ i. outcome (a .r) 1 (Q.path (c .before .before .before .digest-at .ensures i) (c .before .before .digest-at2 .ensures i) (c .before .number-at .ensures i) (laid i)))
+    ∙ (λ i. outcome (a .r) 1 (Q.path (c1 .digest-at .ensures i) (c .before .before .digest-at2 .ensures i) (sides i) (siblings i)))
 
 pub path-spec : {M : Type 1} → statement M
 path-spec =
     tie.close
-    (tie.spec
-    byte-at-requires
-    cast-n
-    siblings-requires
-    digest-at-requires
-    digest-at-requires-2
-    number-at-requires
-    path-requires
-    returns)
+    (tie.spec free (λ c. search needs) (λ c κs. search needs) free free free free returns)

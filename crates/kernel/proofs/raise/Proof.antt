@@ -1,62 +1,27 @@
 -- The fields are those at their places.
 use mathlib.Core.Path.{_∙_}
+use Rattle.seqs.specs.Bytes.{digestAt}
 use Rattle.paper.specs.Requests as Q
+use Rattle.paper.specs.Requests.{kinds}
 use Rattle.replies.specs.Outcomes.{outcome}
-use Rattle.kernel.specs.Places.{raiseAt}
-use borrow.Author.Needs.{needs}
+use Rattle.kernel.specs.Places.{requestAt}
+use Rattle.kernel.proofs.Places.{free}
 use Rattle.kernel.proofs.raise.Statement.{statement}
 use Rattle.kernel.proofs.raise.Tie as tie
 
-digest-at-requires : tie.Need-digest-at-requires
-digest-at-requires c κs = search needs
-
-digest-at-requires-2 : tie.Need-digest-at-requires-2
-digest-at-requires-2 c κs = search needs
-
-digest-at-requires-3 : tie.Need-digest-at-requires-3
-digest-at-requires-3 c κs = search needs
-
-digest-at-requires-4 : tie.Need-digest-at-requires-4
-digest-at-requires-4 c κs = search needs
-
-digest-at-requires-5 : tie.Need-digest-at-requires-5
-digest-at-requires-5 c κs = search needs
-
-digest-at-requires-6 : tie.Need-digest-at-requires-6
-digest-at-requires-6 c κs = search needs
-
-digest-at-requires-7 : tie.Need-digest-at-requires-7
-digest-at-requires-7 c κs = search needs
-
-digest-at-requires-8 : tie.Need-digest-at-requires-8
-digest-at-requires-8 c κs = search needs
-
-digest-at-requires-9 : tie.Need-digest-at-requires-9
-digest-at-requires-9 c κs = search needs
-
-digest-at-requires-10 : tie.Need-digest-at-requires-10
-digest-at-requires-10 c κs = search needs
-
-raise-requires : tie.Need-raise-requires
-raise-requires c κs = search needs
-
 returns : tie.Need-returns
-unfolding raiseAt
-returns c = c .raise .ensures ∙ (λ i. outcome (c .before .before .before .before .before .before .before .before .before .before .before .before .args .r) 5 (Q.raise (c .before .before .before .before .before .before .before .before .before .before .digest-at .ensures i) (c .before .before .before .before .before .before .before .before .before .digest-at2 .ensures i) (c .before .before .before .before .before .before .before .before .digest-at3 .ensures i) (c .before .before .before .before .before .before .before .digest-at4 .ensures i) (c .before .before .before .before .before .before .digest-at5 .ensures i) (c .before .before .before .before .before .digest-at6 .ensures i) (c .before .before .before .before .digest-at7 .ensures i) (c .before .before .before .digest-at8 .ensures i) (c .before .before .digest-at9 .ensures i) (c .before .digest-at10 .ensures i)))
+unfolding digestAt requestAt kinds
+returns c =
+    let c8 = c .before .before .before in
+    let c5 = c8 .before .before .before in
+    let c2 = c5 .before .before .before in
+    c .raise .ensures
+    ∙ (λ i.
+    outcome (c2 .before .before .before .args .r) 5
+    (Q.raise (c2 .before .digest-at .ensures i) (c2 .digest-at2 .ensures i)
+    (c5 .before .before .digest-at3 .ensures i) (c5 .before .digest-at4 .ensures i) (c5 .digest-at5 .ensures i)
+    (c8 .before .before .digest-at6 .ensures i) (c8 .before .digest-at7 .ensures i) (c8 .digest-at8 .ensures i)
+    (c .before .before .digest-at9 .ensures i) (c .before .digest-at10 .ensures i)))
 
 pub raise-spec : {M : Type 1} → statement M
-raise-spec =
-    tie.close
-    (tie.spec
-    digest-at-requires
-    digest-at-requires-2
-    digest-at-requires-3
-    digest-at-requires-4
-    digest-at-requires-5
-    digest-at-requires-6
-    digest-at-requires-7
-    digest-at-requires-8
-    digest-at-requires-9
-    digest-at-requires-10
-    raise-requires
-    returns)
+raise-spec = tie.close (tie.spec free free free free free free free free free free free returns)

@@ -1,58 +1,30 @@
 -- The fields are those at their places.
-use mathlib.Core.Path.{_∙_}
+use mathlib.Core.Path.{sym, _∙_}
+use Rattle.seqs.specs.Bytes.{digestAt, number-padded}
 use Rattle.paper.specs.Requests as Q
+use Rattle.paper.specs.Requests.{kinds}
 use Rattle.replies.specs.Outcomes.{outcome}
-use Rattle.kernel.specs.Places.{setRecordAt}
+use Rattle.kernel.specs.Places.{requestAt}
+use Rattle.kernel.proofs.Places.{free}
 use borrow.Author.Needs.{needs}
 use Rattle.kernel.proofs.set_record.Statement.{statement}
 use Rattle.kernel.proofs.set_record.Tie as tie
 
-item-at-requires : tie.Need-item-at-requires
-item-at-requires c κs = search needs
-
-item-at-requires-2 : tie.Need-item-at-requires-2
-item-at-requires-2 c κs = search needs
-
-record-at-requires : tie.Need-record-at-requires
-record-at-requires c κs = search needs
-
-number-at-requires : tie.Need-number-at-requires
-number-at-requires c κs = search needs
-
-number-at-requires-2 : tie.Need-number-at-requires-2
-number-at-requires-2 c κs = search needs
-
-number-at-requires-3 : tie.Need-number-at-requires-3
-number-at-requires-3 c κs = search needs
-
-digest-at-requires : tie.Need-digest-at-requires
-digest-at-requires c κs = search needs
-
-digest-at-requires-2 : tie.Need-digest-at-requires-2
-digest-at-requires-2 c κs = search needs
-
-digest-at-requires-3 : tie.Need-digest-at-requires-3
-digest-at-requires-3 c κs = search needs
-
-set-record-requires : tie.Need-set-record-requires
-set-record-requires c κs = search needs
-
 returns : tie.Need-returns
-unfolding setRecordAt
-returns c = c .set-record .ensures ∙ (λ i. outcome (c .before .before .before .before .before .before .before .before .before .before .before .args .r) 12 (Q.setTo (c .before .before .before .before .before .before .before .before .before .item-at .ensures i .0) (c .before .before .before .before .before .before .before .before .item-at2 .ensures i .0) (c .before .before .before .before .before .before .before .record-at .ensures i) (c .before .before .before .before .before .before .number-at .ensures i) (c .before .before .before .before .before .number-at2 .ensures i) (c .before .before .before .before .number-at3 .ensures i) (c .before .before .before .digest-at .ensures i) (c .before .before .digest-at2 .ensures i) (c .before .digest-at3 .ensures i)))
+unfolding digestAt requestAt kinds
+returns c =
+    let c7 = c .before .before .before in
+    let c4 = c7 .before .before .before in
+    let c1 = c4 .before .before .before in
+    let f = c1 .before .before .args .f .now in
+    c .set-record .ensures
+    ∙ (λ i.
+    outcome (c1 .before .before .args .r) 12
+    (Q.setTo (c1 .item-at .ensures i) (c4 .before .before .item-at2 .ensures i) (c4 .before .record-at .ensures i)
+    ((c4 .number-at .ensures ∙ sym (number-padded f 49)) i)
+    ((c7 .before .before .number-at2 .ensures ∙ sym (number-padded f 57)) i)
+    ((c7 .before .number-at3 .ensures ∙ sym (number-padded f 65)) i) (c7 .digest-at .ensures i)
+    (c .before .before .digest-at2 .ensures i) (c .before .digest-at3 .ensures i)))
 
 pub set-record-spec : {M : Type 1} → statement M
-set-record-spec =
-    tie.close
-    (tie.spec
-    item-at-requires
-    item-at-requires-2
-    record-at-requires
-    number-at-requires
-    number-at-requires-2
-    number-at-requires-3
-    digest-at-requires
-    digest-at-requires-2
-    digest-at-requires-3
-    set-record-requires
-    returns)
+set-record-spec = tie.close (tie.spec free free (λ c κs. search needs) free free free free free free free returns)

@@ -1,29 +1,22 @@
 -- The fields are those at their places.
 use mathlib.Core.Path.{_∙_}
+use Rattle.seqs.specs.Bytes.{digestAt}
 use Rattle.paper.specs.Requests as Q
+use Rattle.paper.specs.Requests.{kinds}
 use Rattle.replies.specs.Outcomes.{outcome}
-use Rattle.kernel.specs.Places.{turnAt}
-use borrow.Author.Needs.{needs}
+use Rattle.kernel.specs.Places.{requestAt}
+use Rattle.kernel.proofs.Places.{free}
 use Rattle.kernel.proofs.turn.Statement.{statement}
 use Rattle.kernel.proofs.turn.Tie as tie
 
-digest-at-requires : tie.Need-digest-at-requires
-digest-at-requires c κs = search needs
-
-digest-at-requires-2 : tie.Need-digest-at-requires-2
-digest-at-requires-2 c κs = search needs
-
-digest-at-requires-3 : tie.Need-digest-at-requires-3
-digest-at-requires-3 c κs = search needs
-
-turn-requires : tie.Need-turn-requires
-turn-requires c κs = search needs
-
 returns : tie.Need-returns
-unfolding turnAt
-returns c = c .turn .ensures ∙ (λ i. outcome (c .before .before .before .before .before .args .r) 9 (Q.turn (c .before .before .before .digest-at .ensures i) (c .before .before .digest-at2 .ensures i) (c .before .digest-at3 .ensures i)))
+unfolding digestAt requestAt kinds
+returns c =
+    c .turn .ensures
+    ∙ (λ i.
+    outcome (c .before .before .before .before .before .args .r) 9
+    (Q.turn (c .before .before .before .digest-at .ensures i) (c .before .before .digest-at2 .ensures i)
+    (c .before .digest-at3 .ensures i)))
 
 pub turn-spec : {M : Type 1} → statement M
-turn-spec =
-    tie.close
-    (tie.spec digest-at-requires digest-at-requires-2 digest-at-requires-3 turn-requires returns)
+turn-spec = tie.close (tie.spec free free free free returns)
