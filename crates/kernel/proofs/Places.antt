@@ -2,31 +2,31 @@
 use mathlib.Core.Path.{_≡_, refl, sym, ap, ap₂, _∙_}
 use mathlib.Core.Bool.{true}
 use mathlib.Core.List.{List, [], _∷_, _++_}
-use Prim.Native.Nat.{ℕ, zero, suc, _+_, _*_, _≤_}
+use Prim.Native.Nat.{ℕ, zero, suc, _+_, _*_, _<_, _≤_}
 use native.Mathlib.Omega.{arith}
 use borrow.Author.Tests.{eqb-true}
-use lib.ListN.{length, getD, take, drop, replicate, length-take, length-drop, length-append, length-replicate}
+use lib.ListN.{length, getD, take, drop, replicate, length-take, length-drop}
 use lib.Seq.{drop-drop, getD-drop, getD-take, take-all, take-append-le, ext-getD}
 use Rattle.seqs.specs.Choose.{both-true}
 use Rattle.seqs.specs.Bytes.{numberOf, numberAt, digestAt, padded-length, padded-byte, number-padded}
 use Rattle.paper.specs.Strings.{Dig}
-use Rattle.paper.specs.Requests.{Carried, aPath, countIn, kindOf, rowOf, takes, takesAll, part, sidesIn, siblingsIn, digestsIn, fits, requestOf}
+use Rattle.paper.specs.Requests.{Carried, aPath, kindOf, rowOf, takes, takesAll, part, fits, requestOf}
+use Rattle.paper.specs.Requests.{countIn, sidesIn, siblingsIn, digestsIn}
 use Rattle.kernel.specs.Places.{bytesAt, partAt, requestAt}
 
-ruleset lengths = (length-take, length-drop, length-append, length-replicate)
-
--- what a call asks that asks nothing
+-- the answer to a call that asks nothing
 pub free : {A B : Type 0} → A → B → Unit {0}
 free c κs = tt
 
 module _ (f : List ℕ) where
-  -- ── parts ──
+  -- ── a frame that fits ──
 
-  -- bytes that are there
   bytes-there : (at w : ℕ) → at + w ≤ length f → take w (drop at f) ≡ bytesAt f at w
+  unfolding bytesAt
   bytes-there at w h = sym (take-append-le w (drop at f) (replicate w 0) (simp length-drop (omega arith)))
 
-  parts-there : (cs : List Carried) (at i : ℕ) → at + takesAll cs (drop at f) ≤ length f → part cs (drop at f) i ≡ partAt f cs at i
+  parts-there : (cs : List Carried) (at i : ℕ) → at + takesAll cs (drop at f) ≤ length f
+      → part cs (drop at f) i ≡ partAt f cs at i
   parts-there [] at i h = refl
   parts-there (c ∷ cs) at zero h = bytes-there at (takes c (drop at f)) (omega arith)
   parts-there (c ∷ cs) at (suc i) h =
@@ -42,28 +42,39 @@ module _ (f : List ℕ) where
       let long : length f ≡ 1 + takesAll cs (drop 1 f) = eqb-true _ _ (both-true _ _ ok .0) in
       λ j. rowOf (kindOf f) .reads (λ i. parts-there cs 1 i (omega arith) j)
 
-  -- ── bytes among bytes ──
+  -- ── bytes among the bytes at a place ──
+
+  bytes-length : (at w : ℕ) → length (bytesAt f at w) ≡ w
+  unfolding bytesAt
+  bytes-length at w = padded-length f at w
+
+  byte-there : (at w i : ℕ) → i < w → getD (bytesAt f at w) i 0 ≡ getD f (at + i) 0
+  unfolding bytesAt
+  byte-there at w i h = padded-byte f at w i h
 
   inside : (at w k v : ℕ) → k + v ≤ w → take v (drop k (bytesAt f at w)) ≡ bytesAt f (at + k) v
   inside at w k v h =
       let l : List ℕ = bytesAt f at w in
-      let long : length (take v (drop k l)) ≡ v = simp lengths (omega arith) in
-      ext-getD 0 (take v (drop k l)) (bytesAt f (at + k) v) (long ∙ sym (padded-length f (at + k) v))
+      let long : length (take v (drop k l)) ≡ v = simp (length-take, length-drop, bytes-length) (omega arith) in
+      ext-getD 0 (take v (drop k l)) (bytesAt f (at + k) v) (long ∙ sym (bytes-length (at + k) v))
       (λ i b.
-      getD-take v (drop k l) i 0 (omega arith) ∙ getD-drop k l i 0 ∙ padded-byte f at w (k + i) (omega arith)
-      ∙ ap (λ (m : ℕ). getD f m 0) (omega arith) ∙ sym (padded-byte f (at + k) v i (omega arith)))
+      getD-take v (drop k l) i 0 (omega arith) ∙ getD-drop k l i 0 ∙ byte-there at w (k + i) (omega arith)
+      ∙ ap (λ (m : ℕ). getD f m 0) (omega arith) ∙ sym (byte-there (at + k) v i (omega arith)))
 
   behind : (at k w : ℕ) → drop k (bytesAt f at (k + w)) ≡ bytesAt f (at + k) w
   behind at k w =
-      let l : List ℕ = drop k (bytesAt f at (k + w)) in
-      sym (take-all w l (simp lengths (omega arith))) ∙ inside at (k + w) k w (omega arith)
+      let long : length (drop k (bytesAt f at (k + w))) ≤ w = simp (length-drop, bytes-length) (omega arith) in
+      sym (take-all w (drop k (bytesAt f at (k + w))) long) ∙ inside at (k + w) k w (omega arith)
 
-  -- a number and a digest there
+  pub number-there : (at : ℕ) → numberAt f at ≡ numberOf (bytesAt f at 8)
+  unfolding bytesAt
+  number-there at = sym (number-padded f at)
+
   pub number-inside : (at w k : ℕ) → k + 8 ≤ w → numberAt f (at + k) ≡ numberOf (take 8 (drop k (bytesAt f at w)))
-  number-inside at w k h = sym (ap numberOf (inside at w k 8 h) ∙ number-padded f (at + k))
+  number-inside at w k h = number-there (at + k) ∙ sym (ap numberOf (inside at w k 8 h))
 
   pub digest-inside : (at w k : ℕ) → k + 32 ≤ w → digestAt f (at + k) ≡ take 32 (drop k (bytesAt f at w))
-  unfolding digestAt
+  unfolding digestAt bytesAt
   digest-inside at w k h = sym (inside at w k 32 h)
 
   -- a path's sides, and its siblings, as many as its n
@@ -74,10 +85,9 @@ module _ (f : List ℕ) where
       → digestsIn n (bytesAt f 74 (32 * n)) ≡ siblingsIn (bytesAt f 65 (takes aPath (drop 65 f)))
   siblings-inside n e =
       let m : ℕ = countIn (drop 65 f) in
-      let same : n ≡ m = e ∙ sym (getD-drop 65 f 0 0) in
-      let count : countIn (bytesAt f 65 (9 + 32 * m)) ≡ m =
-      padded-byte f 65 (9 + 32 * m) 0 (omega arith) ∙ sym (getD-drop 65 f 0 0) in
-      ap (λ (k : ℕ). digestsIn k (bytesAt f 74 (32 * k))) same ∙ sym (ap₂ digestsIn count (behind 65 9 (32 * m)))
+      let byte : getD f 65 0 ≡ m = sym (getD-drop 65 f 0 0) in
+      let count : countIn (bytesAt f 65 (9 + 32 * m)) ≡ m = byte-there 65 (9 + 32 * m) 0 (omega arith) ∙ byte in
+      ap (λ (k : ℕ). digestsIn k (bytesAt f 74 (32 * k))) (e ∙ byte) ∙ sym (ap₂ digestsIn count (behind 65 9 (32 * m)))
 
 -- one digest more
 pub digests-next : (n : ℕ) (l : List ℕ) → digestsIn (suc n) l ≡ digestsIn n l ++ (take 32 (drop (32 * n) l) ∷ [])

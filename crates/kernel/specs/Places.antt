@@ -6,7 +6,7 @@ use lib.ListN.{take, drop, replicate}
 use Rattle.paper.specs.Requests.{Request, Carried, rowOf, takes}
 
 -- w bytes from a place on
-abbrev pub bytesAt : List ℕ → (at w : ℕ) → List ℕ
+unfoldable pub bytesAt : List ℕ → (at w : ℕ) → List ℕ
 bytesAt f at w = take w (drop at f ++ replicate w 0)
 
 -- the bytes of the i-th thing carried, the first of them lying at a place

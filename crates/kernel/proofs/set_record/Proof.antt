@@ -1,17 +1,17 @@
 -- The fields are those at their places.
-use mathlib.Core.Path.{sym, _∙_}
-use Rattle.seqs.specs.Bytes.{digestAt, number-padded}
+use mathlib.Core.Path.{_∙_}
+use Rattle.seqs.specs.Bytes.{digestAt}
 use Rattle.paper.specs.Requests as Q
 use Rattle.paper.specs.Requests.{kinds}
 use Rattle.replies.specs.Outcomes.{outcome}
-use Rattle.kernel.specs.Places.{requestAt}
-use Rattle.kernel.proofs.Places.{free}
+use Rattle.kernel.specs.Places.{bytesAt, requestAt}
+use Rattle.kernel.proofs.Places.{free, number-there}
 use borrow.Author.Needs.{needs}
 use Rattle.kernel.proofs.set_record.Statement.{statement}
 use Rattle.kernel.proofs.set_record.Tie as tie
 
 returns : tie.Need-returns
-unfolding digestAt requestAt kinds
+unfolding digestAt bytesAt requestAt kinds
 returns c =
     let c7 = c .before .before .before in
     let c4 = c7 .before .before .before in
@@ -21,9 +21,9 @@ returns c =
     ∙ (λ i.
     outcome (c1 .before .before .args .r) 12
     (Q.setTo (c1 .item-at .ensures i) (c4 .before .before .item-at2 .ensures i) (c4 .before .record-at .ensures i)
-    ((c4 .number-at .ensures ∙ sym (number-padded f 49)) i)
-    ((c7 .before .before .number-at2 .ensures ∙ sym (number-padded f 57)) i)
-    ((c7 .before .number-at3 .ensures ∙ sym (number-padded f 65)) i) (c7 .digest-at .ensures i)
+    ((c4 .number-at .ensures ∙ number-there f 49) i)
+    ((c7 .before .before .number-at2 .ensures ∙ number-there f 57) i)
+    ((c7 .before .number-at3 .ensures ∙ number-there f 65) i) (c7 .digest-at .ensures i)
     (c .before .before .digest-at2 .ensures i) (c .before .digest-at3 .ensures i)))
 
 pub set-record-spec : {M : Type 1} → statement M
