@@ -1,5 +1,8 @@
 // One frame on registers by value: the frame's own checks, its fields taken apart by their places, and the function of
 // its kind.
+use fields::byte_at;
+use fields::digest_at;
+use fields::number_at;
 use paper::Item;
 use paper::Kilograms;
 use paper::Millimetres;
@@ -22,7 +25,7 @@ ghost use Rattle.kernel.specs.Places as At;
 fn item_at(f: &[u8], at: usize) -> Item
     ensures { λ r. ⌜ r .0 ≡ numberOf (At.bytesAt (now (f .entry)) at 8) ⌝ }
 {
-    Item(fields::number_at(f, at))
+    Item(number_at(f, at))
 }
 
 fn record_at(f: &[u8], at: usize) -> Record
@@ -30,10 +33,10 @@ fn record_at(f: &[u8], at: usize) -> Record
     ensures { λ r. ⌜ r ≡ recordIn (At.bytesAt (now (f .entry)) at 32) ⌝ }
 {
     Record {
-        revision: Revision(fields::number_at(f, at)),
-        mass: Kilograms(fields::number_at(f, at + 8)),
-        offset: Millimetres(fields::number_at(f, at + 16)),
-        rigging: Rigging(fields::number_at(f, at + 24)),
+        revision: Revision(number_at(f, at)),
+        mass: Kilograms(number_at(f, at + 8)),
+        offset: Millimetres(number_at(f, at + 16)),
+        rigging: Rigging(number_at(f, at + 24)),
     }
 }
 
@@ -45,7 +48,7 @@ fn siblings(f: &[u8], n: usize) -> [[u8; 32]; 64]
     let mut out = [[0u8; 32]; 64];
     let mut i: usize = 0;
     while i < n {
-        let d = fields::digest_at(f, 74 + 32 * i);
+        let d = digest_at(f, 74 + 32 * i);
         out[i] = d;
         i += 1;
     }
@@ -56,27 +59,15 @@ fn path(r: Registers, f: &[u8]) -> Outcome
     requires { ⌜ getD (now f) 65 0 ≤ 64 ⌝ }
     ensures { λ o. ⌜ o ≡ outcome r 1 (At.requestAt 1 (now (f .entry))) ⌝ }
 {
-    let n = fields::byte_at(f, 65) as usize;
+    let n = byte_at(f, 65) as usize;
     let s = siblings(f, n);
-    tree_kinds::path(
-        r,
-        fields::digest_at(f, 1),
-        fields::digest_at(f, 33),
-        n,
-        fields::number_at(f, 66),
-        s,
-    )
+    tree_kinds::path(r, digest_at(f, 1), digest_at(f, 33), n, number_at(f, 66), s)
 }
 
 fn witness(r: Registers, f: &[u8]) -> Outcome
     ensures { λ o. ⌜ o ≡ outcome r 2 (At.requestAt 2 (now (f .entry))) ⌝ }
 {
-    tree_kinds::witness(
-        r,
-        fields::digest_at(f, 1),
-        fields::digest_at(f, 33),
-        fields::digest_at(f, 65),
-    )
+    tree_kinds::witness(r, digest_at(f, 1), digest_at(f, 33), digest_at(f, 65))
 }
 
 fn join(r: Registers, f: &[u8]) -> Outcome
@@ -84,14 +75,14 @@ fn join(r: Registers, f: &[u8]) -> Outcome
 {
     tree_kinds::join(
         r,
-        fields::digest_at(f, 1),
-        fields::digest_at(f, 33),
-        fields::digest_at(f, 65),
-        fields::digest_at(f, 97),
-        fields::digest_at(f, 129),
-        fields::digest_at(f, 161),
-        fields::digest_at(f, 193),
-        fields::digest_at(f, 225),
+        digest_at(f, 1),
+        digest_at(f, 33),
+        digest_at(f, 65),
+        digest_at(f, 97),
+        digest_at(f, 129),
+        digest_at(f, 161),
+        digest_at(f, 193),
+        digest_at(f, 225),
     )
 }
 
@@ -100,16 +91,16 @@ fn pair(r: Registers, f: &[u8]) -> Outcome
 {
     tree_kinds::pair(
         r,
-        fields::digest_at(f, 1),
-        fields::digest_at(f, 33),
-        fields::digest_at(f, 65),
-        fields::digest_at(f, 97),
-        fields::digest_at(f, 129),
-        fields::digest_at(f, 161),
-        fields::digest_at(f, 193),
-        fields::digest_at(f, 225),
-        fields::digest_at(f, 257),
-        fields::digest_at(f, 289),
+        digest_at(f, 1),
+        digest_at(f, 33),
+        digest_at(f, 65),
+        digest_at(f, 97),
+        digest_at(f, 129),
+        digest_at(f, 161),
+        digest_at(f, 193),
+        digest_at(f, 225),
+        digest_at(f, 257),
+        digest_at(f, 289),
     )
 }
 
@@ -118,16 +109,16 @@ fn raise(r: Registers, f: &[u8]) -> Outcome
 {
     tree_kinds::raise(
         r,
-        fields::digest_at(f, 1),
-        fields::digest_at(f, 33),
-        fields::digest_at(f, 65),
-        fields::digest_at(f, 97),
-        fields::digest_at(f, 129),
-        fields::digest_at(f, 161),
-        fields::digest_at(f, 193),
-        fields::digest_at(f, 225),
-        fields::digest_at(f, 257),
-        fields::digest_at(f, 289),
+        digest_at(f, 1),
+        digest_at(f, 33),
+        digest_at(f, 65),
+        digest_at(f, 97),
+        digest_at(f, 129),
+        digest_at(f, 161),
+        digest_at(f, 193),
+        digest_at(f, 225),
+        digest_at(f, 257),
+        digest_at(f, 289),
     )
 }
 
@@ -136,11 +127,11 @@ fn swap(r: Registers, f: &[u8]) -> Outcome
 {
     ring_kinds::swap(
         r,
-        fields::digest_at(f, 1),
-        fields::digest_at(f, 33),
-        fields::digest_at(f, 65),
-        fields::digest_at(f, 97),
-        fields::digest_at(f, 129),
+        digest_at(f, 1),
+        digest_at(f, 33),
+        digest_at(f, 65),
+        digest_at(f, 97),
+        digest_at(f, 129),
     )
 }
 
@@ -158,22 +149,17 @@ fn place(r: Registers, f: &[u8]) -> Outcome
         item_at(f, 1),
         item_at(f, 9),
         item_at(f, 17),
-        fields::digest_at(f, 25),
-        fields::digest_at(f, 57),
-        fields::digest_at(f, 89),
-        fields::digest_at(f, 121),
+        digest_at(f, 25),
+        digest_at(f, 57),
+        digest_at(f, 89),
+        digest_at(f, 121),
     )
 }
 
 fn turn(r: Registers, f: &[u8]) -> Outcome
     ensures { λ o. ⌜ o ≡ outcome r 9 (At.requestAt 9 (now (f .entry))) ⌝ }
 {
-    ring_kinds::turn(
-        r,
-        fields::digest_at(f, 1),
-        fields::digest_at(f, 33),
-        fields::digest_at(f, 65),
-    )
+    ring_kinds::turn(r, digest_at(f, 1), digest_at(f, 33), digest_at(f, 65))
 }
 
 fn chain(r: Registers, f: &[u8]) -> Outcome
@@ -181,23 +167,18 @@ fn chain(r: Registers, f: &[u8]) -> Outcome
 {
     ring_kinds::chain(
         r,
-        fields::digest_at(f, 1),
-        fields::digest_at(f, 33),
-        fields::digest_at(f, 65),
-        fields::digest_at(f, 97),
-        fields::digest_at(f, 129),
+        digest_at(f, 1),
+        digest_at(f, 33),
+        digest_at(f, 65),
+        digest_at(f, 97),
+        digest_at(f, 129),
     )
 }
 
 fn adopt(r: Registers, f: &[u8]) -> Outcome
     ensures { λ o. ⌜ o ≡ outcome r 11 (At.requestAt 11 (now (f .entry))) ⌝ }
 {
-    list_kinds::adopt(
-        r,
-        fields::digest_at(f, 1),
-        fields::digest_at(f, 33),
-        fields::digest_at(f, 65),
-    )
+    list_kinds::adopt(r, digest_at(f, 1), digest_at(f, 33), digest_at(f, 65))
 }
 
 fn set_record(r: Registers, f: &[u8]) -> Outcome
@@ -208,12 +189,12 @@ fn set_record(r: Registers, f: &[u8]) -> Outcome
         item_at(f, 1),
         item_at(f, 9),
         record_at(f, 17),
-        Kilograms(fields::number_at(f, 49)),
-        Millimetres(fields::number_at(f, 57)),
-        Rigging(fields::number_at(f, 65)),
-        fields::digest_at(f, 73),
-        fields::digest_at(f, 105),
-        fields::digest_at(f, 137),
+        Kilograms(number_at(f, 49)),
+        Millimetres(number_at(f, 57)),
+        Rigging(number_at(f, 65)),
+        digest_at(f, 73),
+        digest_at(f, 105),
+        digest_at(f, 137),
     )
 }
 
@@ -225,9 +206,9 @@ fn clear_record(r: Registers, f: &[u8]) -> Outcome
         item_at(f, 1),
         item_at(f, 9),
         record_at(f, 17),
-        fields::digest_at(f, 49),
-        fields::digest_at(f, 81),
-        fields::digest_at(f, 113),
+        digest_at(f, 49),
+        digest_at(f, 81),
+        digest_at(f, 113),
     )
 }
 
@@ -240,8 +221,8 @@ fn ask(r: Registers, f: &[u8]) -> Outcome
         item_at(f, 9),
         item_at(f, 17),
         record_at(f, 25),
-        fields::digest_at(f, 57),
-        fields::digest_at(f, 89),
+        digest_at(f, 57),
+        digest_at(f, 89),
     )
 }
 
@@ -254,7 +235,7 @@ fn ask_none(r: Registers, f: &[u8]) -> Outcome
 fn unlock(r: Registers, f: &[u8]) -> Outcome
     ensures { λ o. ⌜ o ≡ outcome r 16 (At.requestAt 16 (now (f .entry))) ⌝ }
 {
-    list_kinds::unlock(r, fields::digest_at(f, 1))
+    list_kinds::unlock(r, digest_at(f, 1))
 }
 
 // The function of each kind, for a frame that passes its own checks.
@@ -262,7 +243,7 @@ fn dispatch(r: Registers, f: &[u8]) -> Outcome
     requires { ⌜ (known (kindOf (now f)) ≡ true) × (fits (now f) ≡ true) ⌝ }
     ensures { λ o. ⌜ o ≡ outcome r (kindOf (now (f .entry))) (requestOf (now (f .entry))) ⌝ }
 {
-    let kind = fields::byte_at(f, 0);
+    let kind = byte_at(f, 0);
     match kind {
         1 => path(r, f),
         2 => witness(r, f),

@@ -1,15 +1,9 @@
 -- A frame that fails its own checks is refused by them; any other is answered as its request is.
 use mathlib.Core.Path.{_∙_}
-use borrow.Author.Needs.{needs}
+use Rattle.kernel.proofs.Places.{free}
 use Rattle.kernel.proofs.Frames.{frame-refused, frame-sound, frame-answered}
 use Rattle.kernel.proofs.answer.Statement.{statement}
 use Rattle.kernel.proofs.answer.Tie as tie
-
-frame-refusal-requires : tie.Need-frame-refusal-requires
-frame-refusal-requires c κs = search needs
-
-refuse-requires : tie.Need-refuse-requires
-refuse-requires c κs = search needs
 
 returns : tie.Need-returns
 returns c =
@@ -29,4 +23,4 @@ returns-2 c =
 
 pub answer-spec : {M : Type 1} → statement M
 answer-spec =
-    tie.close (tie.spec frame-refusal-requires refuse-requires returns dispatch-requires returns-2)
+    tie.close (tie.spec free free returns dispatch-requires returns-2)

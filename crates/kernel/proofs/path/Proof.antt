@@ -2,7 +2,6 @@
 use mathlib.Core.Path.{_∙_}
 use Rattle.seqs.specs.Bytes.{digestAt}
 use Rattle.paper.specs.Requests as Q
-use Rattle.paper.specs.Requests.{kinds}
 use Rattle.replies.specs.Outcomes.{outcome}
 use Rattle.kernel.specs.Places.{bytesAt, requestAt}
 use Rattle.kernel.proofs.Places.{free, sides-inside, siblings-inside}
@@ -11,7 +10,7 @@ use Rattle.kernel.proofs.path.Statement.{statement}
 use Rattle.kernel.proofs.path.Tie as tie
 
 returns : tie.Need-returns
-unfolding digestAt bytesAt requestAt kinds
+unfolding digestAt bytesAt requestAt Q.kinds
 returns c =
     let c1 = c .before .before .before in
     let read = c1 .before .before in
