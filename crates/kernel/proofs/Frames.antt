@@ -47,11 +47,11 @@ Beside k (suc n) = Beside k n × (k ≡ suc n → ⊥)
 
 pub beyond : (k n : ℕ) → Beside k n → 1 ≤ k → n < k
 beyond k zero b h = h
-beyond k (suc n) b h = let past : n < k = beyond k n (b .0) h in let ne = b .1 in omega (arith, ne)
+beyond k (suc n) b h = let past = beyond k n (b .0) h in omega (arith, b .1)
 
 -- ── checks 2 and 3, then those of the request ──
 
-module _ (f : List ℕ) (cs : List Check) (early : NoneEarly cs) where
+module _ (f : List ℕ) {cs : List Check} (early : NoneEarly cs) where
   judged-2 : known (kindOf f) ≡ false → judge (drop 2 order) [] (frameChecks f ++ cs) ≡ refused 2 []
   judged-2 h = rw (early .of-2, h)
 
@@ -71,6 +71,12 @@ module _ (s : Registers) (f : List ℕ) where
   abbrev own : ℕ
   own = refusalOf (judge (2 ∷ 3 ∷ []) [] (frameChecks f))
 
+  abbrev toldOf : Verdict → Outcome
+  toldOf v = outcomeOf (told sha256 s (kindOf f) q v)
+
+  early : NoneEarly (needs sha256 s q)
+  early = none-early sha256 s q
+
   -- by what the two checks say
   own-by : (b c : Bool) → known (kindOf f) ≡ b → fits f ≡ c → own ≡ pick (opposite b) 2 (pick (opposite c) 3 0)
   own-by b c h g = frame-by f ∙ ap₂ (λ (x y : Bool). pick (opposite x) 2 (pick (opposite y) 3 0)) h g
@@ -79,11 +85,9 @@ module _ (s : Registers) (f : List ℕ) where
       → refusal s n 0 ≡ outcomeOf (answerFrame sha256 s f)
   unfolding answerFrame
   refused-by false c h g n e z =
-      ap (λ (m : ℕ). refusal s m 0) (e ∙ own-by false c h g)
-      ∙ sym (ap (λ (v : Verdict). outcomeOf (told sha256 s (kindOf f) q v)) (judged-2 f (needs sha256 s q) (none-early sha256 s q) h))
+      ap (λ (m : ℕ). refusal s m 0) (e ∙ own-by false c h g) ∙ sym (ap toldOf (judged-2 f early h))
   refused-by true false h g n e z =
-      ap (λ (m : ℕ). refusal s m 0) (e ∙ own-by true false h g)
-      ∙ sym (ap (λ (v : Verdict). outcomeOf (told sha256 s (kindOf f) q v)) (judged-3 f (needs sha256 s q) (none-early sha256 s q) h g))
+      ap (λ (m : ℕ). refusal s m 0) (e ∙ own-by true false h g) ∙ sym (ap toldOf (judged-3 f early h g))
   refused-by true true h g n e z = absurd (z (e ∙ own-by true true h g))
 
   pub frame-refused : (n : ℕ) → n ≡ own → (n ≡ 0 → ⊥) → refusal s n 0 ≡ outcomeOf (answerFrame sha256 s f)
@@ -98,7 +102,7 @@ module _ (s : Registers) (f : List ℕ) where
   pub frame-sound : (n : ℕ) → n ≡ own → n ≡ 0 → (known (kindOf f) ≡ true) × (fits f ≡ true)
   frame-sound n e z = sound-by (known (kindOf f)) (fits f) refl refl n e z
 
-  pub frame-answered : known (kindOf f) ≡ true → fits f ≡ true → outcome s (kindOf f) q ≡ outcomeOf (answerFrame sha256 s f)
+  pub frame-answered : known (kindOf f) ≡ true → fits f ≡ true
+      → outcome s (kindOf f) q ≡ outcomeOf (answerFrame sha256 s f)
   unfolding answerFrame outcome
-  frame-answered h g =
-      sym (ap (λ (v : Verdict). outcomeOf (told sha256 s (kindOf f) q v)) (judged-on f (needs sha256 s q) (none-early sha256 s q) h g))
+  frame-answered h g = sym (ap toldOf (judged-on f early h g))

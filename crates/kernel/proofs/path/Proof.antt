@@ -13,12 +13,14 @@ returns : tie.Need-returns
 unfolding digestAt bytesAt requestAt Q.kinds
 returns c =
     let c1 = c .before .before .before in
-    let read = c1 .before .before in
-    let a = read .before .before .args in
+    let counted = c1 .before .before in
+    let a = counted .before .before .args in
     let sides = c .before .number-at .ensures ∙ sides-inside (a .f .now) in
-    let siblings = c1 .before .siblings .ensures ∙ siblings-inside (a .f .now) _ (read .byte-at .ensures) in
+    let siblings = c1 .before .siblings .ensures ∙ siblings-inside (a .f .now) _ (counted .byte-at .ensures) in
     c .path .ensures
-    ∙ (λ i. outcome (a .r) 1 (Q.path (c1 .digest-at .ensures i) (c .before .before .digest-at2 .ensures i) (sides i) (siblings i)))
+    ∙ (λ i.
+    outcome (a .r) 1
+    (Q.path (c1 .digest-at .ensures i) (c .before .before .digest-at2 .ensures i) (sides i) (siblings i)))
 
 pub path-spec : {M : Type 1} → statement M
 path-spec =
