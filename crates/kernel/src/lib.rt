@@ -15,22 +15,22 @@ ghost use mathlib.Core.Bool.{true};
 ghost use mathlib.Core.Path.{_≡_};
 ghost use Prim.Native.Nat.{_*_, _≤_};
 ghost use lib.ListN.{getD, take};
-ghost use Rattle.sha256.specs.Hash.{sha256};
 ghost use Rattle.seqs.specs.Bytes.{numberOf};
+ghost use Rattle.sha256.specs.Hash.{sha256};
 ghost use Rattle.paper.specs.Requests.{recordIn, digestsIn, kindOf, known, fits, requestOf};
 ghost use Rattle.paper.specs.Module.{answerFrame};
 ghost use Rattle.replies.specs.Outcomes.{outcomeOf, outcome};
-ghost use Rattle.kernel.specs.Places as At;
+ghost use Rattle.kernel.specs.Places.{bytesAt, requestAt};
 
 fn item_at(f: &[u8], at: usize) -> Item
-    ensures { λ r. ⌜ r .0 ≡ numberOf (At.bytesAt (now (f .entry)) at 8) ⌝ }
+    ensures { λ r. ⌜ r .0 ≡ numberOf (bytesAt (now (f .entry)) at 8) ⌝ }
 {
     Item(number_at(f, at))
 }
 
 fn record_at(f: &[u8], at: usize) -> Record
     requires { ⌜ at ≤ 2122 ⌝ }
-    ensures { λ r. ⌜ r ≡ recordIn (At.bytesAt (now (f .entry)) at 32) ⌝ }
+    ensures { λ r. ⌜ r ≡ recordIn (bytesAt (now (f .entry)) at 32) ⌝ }
 {
     Record {
         revision: Revision(number_at(f, at)),
@@ -43,7 +43,7 @@ fn record_at(f: &[u8], at: usize) -> Record
 // The n siblings of a path over the front of the array.
 fn siblings(f: &[u8], n: usize) -> [[u8; 32]; 64]
     requires { ⌜ n ≤ 64 ⌝ }
-    ensures { λ r. ⌜ take n r ≡ digestsIn n (At.bytesAt (now (f .entry)) 74 (32 * n)) ⌝ }
+    ensures { λ r. ⌜ take n r ≡ digestsIn n (bytesAt (now (f .entry)) 74 (32 * n)) ⌝ }
 {
     let mut out = [[0u8; 32]; 64];
     let mut i: usize = 0;
@@ -55,9 +55,11 @@ fn siblings(f: &[u8], n: usize) -> [[u8; 32]; 64]
     out
 }
 
+// Each kind's frame, its fields read where the kind's row of the table puts them.
+
 fn path(r: Registers, f: &[u8]) -> Outcome
     requires { ⌜ getD (now f) 65 0 ≤ 64 ⌝ }
-    ensures { λ o. ⌜ o ≡ outcome r 1 (At.requestAt 1 (now (f .entry))) ⌝ }
+    ensures { λ o. ⌜ o ≡ outcome r 1 (requestAt 1 (now (f .entry))) ⌝ }
 {
     let n = byte_at(f, 65) as usize;
     let s = siblings(f, n);
@@ -65,13 +67,13 @@ fn path(r: Registers, f: &[u8]) -> Outcome
 }
 
 fn witness(r: Registers, f: &[u8]) -> Outcome
-    ensures { λ o. ⌜ o ≡ outcome r 2 (At.requestAt 2 (now (f .entry))) ⌝ }
+    ensures { λ o. ⌜ o ≡ outcome r 2 (requestAt 2 (now (f .entry))) ⌝ }
 {
     tree_kinds::witness(r, digest_at(f, 1), digest_at(f, 33), digest_at(f, 65))
 }
 
 fn join(r: Registers, f: &[u8]) -> Outcome
-    ensures { λ o. ⌜ o ≡ outcome r 3 (At.requestAt 3 (now (f .entry))) ⌝ }
+    ensures { λ o. ⌜ o ≡ outcome r 3 (requestAt 3 (now (f .entry))) ⌝ }
 {
     tree_kinds::join(
         r,
@@ -87,7 +89,7 @@ fn join(r: Registers, f: &[u8]) -> Outcome
 }
 
 fn pair(r: Registers, f: &[u8]) -> Outcome
-    ensures { λ o. ⌜ o ≡ outcome r 4 (At.requestAt 4 (now (f .entry))) ⌝ }
+    ensures { λ o. ⌜ o ≡ outcome r 4 (requestAt 4 (now (f .entry))) ⌝ }
 {
     tree_kinds::pair(
         r,
@@ -105,7 +107,7 @@ fn pair(r: Registers, f: &[u8]) -> Outcome
 }
 
 fn raise(r: Registers, f: &[u8]) -> Outcome
-    ensures { λ o. ⌜ o ≡ outcome r 5 (At.requestAt 5 (now (f .entry))) ⌝ }
+    ensures { λ o. ⌜ o ≡ outcome r 5 (requestAt 5 (now (f .entry))) ⌝ }
 {
     tree_kinds::raise(
         r,
@@ -123,7 +125,7 @@ fn raise(r: Registers, f: &[u8]) -> Outcome
 }
 
 fn swap(r: Registers, f: &[u8]) -> Outcome
-    ensures { λ o. ⌜ o ≡ outcome r 6 (At.requestAt 6 (now (f .entry))) ⌝ }
+    ensures { λ o. ⌜ o ≡ outcome r 6 (requestAt 6 (now (f .entry))) ⌝ }
 {
     ring_kinds::swap(
         r,
@@ -136,13 +138,13 @@ fn swap(r: Registers, f: &[u8]) -> Outcome
 }
 
 fn first(r: Registers, f: &[u8]) -> Outcome
-    ensures { λ o. ⌜ o ≡ outcome r 7 (At.requestAt 7 (now (f .entry))) ⌝ }
+    ensures { λ o. ⌜ o ≡ outcome r 7 (requestAt 7 (now (f .entry))) ⌝ }
 {
     ring_kinds::first(r, item_at(f, 1))
 }
 
 fn place(r: Registers, f: &[u8]) -> Outcome
-    ensures { λ o. ⌜ o ≡ outcome r 8 (At.requestAt 8 (now (f .entry))) ⌝ }
+    ensures { λ o. ⌜ o ≡ outcome r 8 (requestAt 8 (now (f .entry))) ⌝ }
 {
     ring_kinds::place(
         r,
@@ -157,13 +159,13 @@ fn place(r: Registers, f: &[u8]) -> Outcome
 }
 
 fn turn(r: Registers, f: &[u8]) -> Outcome
-    ensures { λ o. ⌜ o ≡ outcome r 9 (At.requestAt 9 (now (f .entry))) ⌝ }
+    ensures { λ o. ⌜ o ≡ outcome r 9 (requestAt 9 (now (f .entry))) ⌝ }
 {
     ring_kinds::turn(r, digest_at(f, 1), digest_at(f, 33), digest_at(f, 65))
 }
 
 fn chain(r: Registers, f: &[u8]) -> Outcome
-    ensures { λ o. ⌜ o ≡ outcome r 10 (At.requestAt 10 (now (f .entry))) ⌝ }
+    ensures { λ o. ⌜ o ≡ outcome r 10 (requestAt 10 (now (f .entry))) ⌝ }
 {
     ring_kinds::chain(
         r,
@@ -176,13 +178,13 @@ fn chain(r: Registers, f: &[u8]) -> Outcome
 }
 
 fn adopt(r: Registers, f: &[u8]) -> Outcome
-    ensures { λ o. ⌜ o ≡ outcome r 11 (At.requestAt 11 (now (f .entry))) ⌝ }
+    ensures { λ o. ⌜ o ≡ outcome r 11 (requestAt 11 (now (f .entry))) ⌝ }
 {
     list_kinds::adopt(r, digest_at(f, 1), digest_at(f, 33), digest_at(f, 65))
 }
 
 fn set_record(r: Registers, f: &[u8]) -> Outcome
-    ensures { λ o. ⌜ o ≡ outcome r 12 (At.requestAt 12 (now (f .entry))) ⌝ }
+    ensures { λ o. ⌜ o ≡ outcome r 12 (requestAt 12 (now (f .entry))) ⌝ }
 {
     list_kinds::set_record(
         r,
@@ -199,7 +201,7 @@ fn set_record(r: Registers, f: &[u8]) -> Outcome
 }
 
 fn clear_record(r: Registers, f: &[u8]) -> Outcome
-    ensures { λ o. ⌜ o ≡ outcome r 13 (At.requestAt 13 (now (f .entry))) ⌝ }
+    ensures { λ o. ⌜ o ≡ outcome r 13 (requestAt 13 (now (f .entry))) ⌝ }
 {
     list_kinds::clear_record(
         r,
@@ -213,7 +215,7 @@ fn clear_record(r: Registers, f: &[u8]) -> Outcome
 }
 
 fn ask(r: Registers, f: &[u8]) -> Outcome
-    ensures { λ o. ⌜ o ≡ outcome r 14 (At.requestAt 14 (now (f .entry))) ⌝ }
+    ensures { λ o. ⌜ o ≡ outcome r 14 (requestAt 14 (now (f .entry))) ⌝ }
 {
     list_kinds::ask(
         r,
@@ -227,13 +229,13 @@ fn ask(r: Registers, f: &[u8]) -> Outcome
 }
 
 fn ask_none(r: Registers, f: &[u8]) -> Outcome
-    ensures { λ o. ⌜ o ≡ outcome r 15 (At.requestAt 15 (now (f .entry))) ⌝ }
+    ensures { λ o. ⌜ o ≡ outcome r 15 (requestAt 15 (now (f .entry))) ⌝ }
 {
     list_kinds::ask_none(r, item_at(f, 1))
 }
 
 fn unlock(r: Registers, f: &[u8]) -> Outcome
-    ensures { λ o. ⌜ o ≡ outcome r 16 (At.requestAt 16 (now (f .entry))) ⌝ }
+    ensures { λ o. ⌜ o ≡ outcome r 16 (requestAt 16 (now (f .entry))) ⌝ }
 {
     list_kinds::unlock(r, digest_at(f, 1))
 }
