@@ -16,7 +16,7 @@ use Rattle.paper.specs.Requests.{kinds, kindOf, known, fits}
 use Rattle.paper.specs.Refusals.{isHex, refused, passed, judge}
 use Rattle.paper.specs.Module.{refusalOf, frameChecks, isWritable, readRefusal, writeRefusal}
 use Rattle.paper.proofs.Frames as F
-use Rattle.lines.specs.Work.{lengths, fitting}
+use Rattle.lines.specs.Work.{lengths, fitting, refusalBy}
 
 -- ── refusals by their tests ──
 
@@ -36,11 +36,12 @@ by-tests false false true d = refl
 by-tests false false false true = refl
 by-tests false false false false = refl
 
-pub read-by : (line : List ℕ) (space : ℕ) → readRefusal line space
-    ≡ firstOf (isHex line .fails) (opposite (known (kindOf (bytesOf line)))) (opposite (fits (bytesOf line))) (ltb space (length (bytesOf line)))
+pub read-by : (line : List ℕ) (space : ℕ) → let f = bytesOf line in
+    readRefusal line space ≡ firstOf (isHex line .fails) (opposite (known (kindOf f))) (opposite (fits f)) (ltb space (length f))
 unfolding readRefusal
 read-by line space =
-    by-tests (isHex line .fails) (opposite (known (kindOf (bytesOf line)))) (opposite (fits (bytesOf line))) (ltb space (length (bytesOf line)))
+    let f = bytesOf line in
+    by-tests (isHex line .fails) (opposite (known (kindOf f))) (opposite (fits f)) (ltb space (length f))
 
 pub write-by : (f : List ℕ) (space : ℕ) → writeRefusal f space
     ≡ firstOf (isWritable f .fails) (opposite (known (kindOf f))) (opposite (fits f)) (ltb space (2 * length f + 1))
@@ -48,14 +49,16 @@ unfolding writeRefusal
 write-by f space = by-tests (isWritable f .fails) (opposite (known (kindOf f))) (opposite (fits f)) (ltb space (2 * length f + 1))
 
 -- a frame's own two checks
+abbrev pub own : List ℕ → ℕ
+own f = refusalOf (judge (2 ∷ 3 ∷ []) [] (frameChecks f))
+
 frame-tests : (b c : Bool)
     → refusalOf (pick (either b false) (refused 2 []) (pick (either c false) (refused 3 []) (passed []))) ≡ pick b 2 (pick c 3 0)
 frame-tests true c = refl
 frame-tests false true = refl
 frame-tests false false = refl
 
-pub frame-by : (f : List ℕ) → refusalOf (judge (2 ∷ 3 ∷ []) [] (frameChecks f))
-    ≡ pick (opposite (known (kindOf f))) 2 (pick (opposite (fits f)) 3 0)
+pub frame-by : (f : List ℕ) → own f ≡ pick (opposite (known (kindOf f))) 2 (pick (opposite (fits f)) 3 0)
 frame-by f = frame-tests (opposite (known (kindOf f))) (opposite (fits f))
 
 -- ── check 3 in numbers ──
@@ -88,12 +91,14 @@ fits-by-kind f (no n) l k =
     F.fits-path f e ∙ path-by f (ℕ-discrete (length f) (74 + 32 * F.countAt f))
     ∙ ap (λ (i : ℕ). fitting i (length f) (getD f 65 0) (numberAt f 66)) (sym e)
 
-pub fits-by : (f : List ℕ) → 1 ≤ kindOf f → kindOf f ≤ 16 → fits f ≡ fitting (kindOf f) (length f) (getD f 65 0) (numberAt f 66)
-fits-by f l k = fits-by-kind f (decLt 1 (kindOf f)) l k
-
--- a frame fits as a call found it to
-pub fits-found : (f : List ℕ) (k long n sides : ℕ) (r : Bool) → r ≡ fitting k long n sides
-    → k ≡ kindOf f → long ≡ length f → n ≡ getD f 65 0 → sides ≡ numberAt f 66 → known (kindOf f) ≡ true → fits f ≡ r
-fits-found f k long n sides r e ek el en es h =
+own-by : (f : List ℕ) (t : Bool) → known (kindOf f) ≡ t → own f ≡ refusalBy (kindOf f) (length f) (getD f 65 0) (numberAt f 66)
+unfolding refusalBy
+own-by f false h = frame-by f ∙ rw h
+own-by f true h =
     let p = known-range (kindOf f) h in
-    fits-by f (p .0) (p .1) ∙ sym (e ∙ (λ i. fitting (ek i) (el i) (en i) (es i)))
+    frame-by f ∙ rw (fits-by-kind f (decLt 1 (kindOf f)) (p .0) (p .1))
+
+-- a frame's own refusal, as a call found it by its numbers
+pub own-found : (f : List ℕ) {k long n sides : ℕ} → k ≡ kindOf f → long ≡ length f → n ≡ getD f 65 0 → sides ≡ numberAt f 66
+    → refusalBy k long n sides ≡ own f
+own-found f ek el en es = (λ i. refusalBy (ek i) (el i) (en i) (es i)) ∙ sym (own-by f (known (kindOf f)) refl)

@@ -1,72 +1,87 @@
 -- What reading a line and writing a frame come to, test by test.
-use mathlib.Core.Path.{_≡_, sym, ap, _∙_}
-use mathlib.Core.Bool.{true, false}
+use mathlib.Core.Path.{_≡_, refl, sym, ap, _∙_}
+use mathlib.Core.Bool.{Bool, true, false}
 use mathlib.Core.List.{List}
 use Prim.Native.Nat.{ℕ, _+_, _*_, _%_, _≤_, _<_}
 use native.Mathlib.Omega.{arith}
 use native.Mathlib.Decide.{decLe}
-use borrow.Author.Tests.{lt-ltb}
+use borrow.Author.Tests.{ne-eqb, lt-ltb, le-ltb}
 use lib.Dec.{eqb, ltb}
 use lib.ListN.{length, take}
 use lib.Seq.{take-all, length-take-le}
-use Rattle.seqs.specs.Choose.{either-yes}
+use Rattle.seqs.specs.Choose.{pick, opposite, either-yes}
 use Rattle.hex.specs.Hex.{bytesOf}
 use Rattle.paper.specs.Requests.{kindOf, known, fits}
 use Rattle.paper.specs.Refusals.{isHex}
-use Rattle.paper.specs.Module.{isWritable}
+use Rattle.paper.specs.Module.{isWritable, readRefusal, writeRefusal}
 use Rattle.lines.specs.declared.Read.the-variants.{Frame, Refused}
 use Rattle.lines.specs.declared.Wrote.the-variants.{Line, Rejected}
 use Rattle.lines.specs.Reading.{readOf, wroteOf}
-use Rattle.lines.proofs.Fitting.{read-by, write-by}
+use Rattle.lines.proofs.Fitting.{firstOf, read-by, write-by, own, frame-by}
+
+-- the tests in turn: of the line or the frame's size, the frame's own refusal, and of the room
+abbrev pub inTurn : Bool → ℕ → Bool → ℕ
+inTurn a own d = pick a 1 (pick (eqb own 0) (pick d 15 0) own)
+
+turns : (a b c d : Bool) → firstOf a b c d ≡ inTurn a (pick b 2 (pick c 3 0)) d
+turns true b c d = refl
+turns false true c d = refl
+turns false false true d = refl
+turns false false false d = refl
+
+in-turn : (a d : Bool) (f : List ℕ) → firstOf a (opposite (known (kindOf f))) (opposite (fits f)) d ≡ inTurn a (own f) d
+in-turn a d f = rw (frame-by f) (turns a (opposite (known (kindOf f))) (opposite (fits f)) d)
+
+-- accepted where there is no refusal
+abbrev outcome : {A : Type 0} → A → (ℕ → A) → ℕ → A
+outcome good bad n = pick (eqb n 0) good (bad n)
 
 module _ (line : List ℕ) (space : ℕ) where
-  pub read-1 : isHex line .fails ≡ true → readOf line space ≡ Refused 1
+  abbrev f : List ℕ
+  f = bytesOf line
+
+  pub read-turns : readRefusal line space ≡ inTurn (isHex line .fails) (own f) (ltb space (length f))
+  read-turns = read-by line space ∙ in-turn (isHex line .fails) (ltb space (length f)) f
+
+  read-is : readOf line space ≡ outcome (Frame (kindOf f) (length f)) (λ n. Refused n)
+      (inTurn (isHex line .fails) (own f) (ltb space (length f)))
   unfolding readOf
-  read-1 h = rw (read-by line space, h)
+  read-is = rw read-turns
+
+  pub read-1 : isHex line .fails ≡ true → readOf line space ≡ Refused 1
+  read-1 h = read-is ∙ rw h
 
   module _ (hex : isHex line .fails ≡ false) where
-    pub read-2 : known (kindOf (bytesOf line)) ≡ false → readOf line space ≡ Refused 2
-    unfolding readOf
-    read-2 h = rw (read-by line space, hex, h)
+    pub read-own : ¬ (own f ≡ 0) → readOf line space ≡ Refused (own f)
+    read-own h = let e = ne-eqb (own f) 0 h in read-is ∙ rw (hex, e) (rw e)
 
-    module _ (kind : known (kindOf (bytesOf line)) ≡ true) where
-      pub read-3 : fits (bytesOf line) ≡ false → readOf line space ≡ Refused 3
-      unfolding readOf
-      read-3 h = rw (read-by line space, hex, kind, h)
+    pub read-15 : own f ≡ 0 → space < length f → readOf line space ≡ Refused 15
+    read-15 e h = read-is ∙ rw (hex, e, lt-ltb space (length f) h)
 
-      module _ (fit : fits (bytesOf line) ≡ true) where
-        pub read-15 : ltb space (length (bytesOf line)) ≡ true → readOf line space ≡ Refused 15
-        unfolding readOf
-        read-15 h = rw (read-by line space, hex, kind, fit, h)
-
-        pub read-frame : ltb space (length (bytesOf line)) ≡ false
-            → readOf line space ≡ Frame (kindOf (bytesOf line)) (length (bytesOf line))
-        unfolding readOf
-        read-frame h = rw (read-by line space, hex, kind, fit, h)
+    pub read-frame : own f ≡ 0 → length f ≤ space → readOf line space ≡ Frame (kindOf f) (length f)
+    read-frame e h = read-is ∙ rw (hex, e, le-ltb space (length f) h)
 
 module _ (f : List ℕ) (space : ℕ) where
-  pub write-1 : isWritable f .fails ≡ true → wroteOf f space ≡ Rejected 1
+  pub write-turns : writeRefusal f space ≡ inTurn (isWritable f .fails) (own f) (ltb space (2 * length f + 1))
+  write-turns = write-by f space ∙ in-turn (isWritable f .fails) (ltb space (2 * length f + 1)) f
+
+  write-is : wroteOf f space ≡ outcome (Line (2 * length f + 1)) (λ n. Rejected n)
+      (inTurn (isWritable f .fails) (own f) (ltb space (2 * length f + 1)))
   unfolding wroteOf
-  write-1 h = rw (write-by f space, h)
+  write-is = rw write-turns
+
+  pub write-1 : isWritable f .fails ≡ true → wroteOf f space ≡ Rejected 1
+  write-1 h = write-is ∙ rw h
 
   module _ (size : isWritable f .fails ≡ false) where
-    pub write-2 : known (kindOf f) ≡ false → wroteOf f space ≡ Rejected 2
-    unfolding wroteOf
-    write-2 h = rw (write-by f space, size, h)
+    pub write-own : ¬ (own f ≡ 0) → wroteOf f space ≡ Rejected (own f)
+    write-own h = let e = ne-eqb (own f) 0 h in write-is ∙ rw (size, e) (rw e)
 
-    module _ (kind : known (kindOf f) ≡ true) where
-      pub write-3 : fits f ≡ false → wroteOf f space ≡ Rejected 3
-      unfolding wroteOf
-      write-3 h = rw (write-by f space, size, kind, h)
+    pub write-15 : own f ≡ 0 → space < 2 * length f + 1 → wroteOf f space ≡ Rejected 15
+    write-15 e h = write-is ∙ rw (size, e, lt-ltb space (2 * length f + 1) h)
 
-      module _ (fit : fits f ≡ true) where
-        pub write-15 : ltb space (2 * length f + 1) ≡ true → wroteOf f space ≡ Rejected 15
-        unfolding wroteOf
-        write-15 h = rw (write-by f space, size, kind, fit, h)
-
-        pub write-line : ltb space (2 * length f + 1) ≡ false → wroteOf f space ≡ Line (2 * length f + 1)
-        unfolding wroteOf
-        write-line h = rw (write-by f space, size, kind, fit, h)
+    pub write-line : own f ≡ 0 → 2 * length f + 1 ≤ space → wroteOf f space ≡ Line (2 * length f + 1)
+    write-line e h = write-is ∙ rw (size, e, le-ltb space (2 * length f + 1) h)
 
 -- ── a line that is too long ──
 

@@ -11,7 +11,7 @@ use Rattle.seqs.specs.Choose.{pick, either, opposite}
 use Rattle.seqs.specs.Bytes.{Bytes}
 use Rattle.hex.specs.Hex.{allDigits, bytesOf, digitsOf, lineOf}
 use Rattle.hex.proofs.Laws.{bytes-of-digits, digits-of-bytes, digits-all, digits-length, bytes-length}
-use Rattle.paper.specs.Requests.{kindOf, known, fits}
+use Rattle.paper.specs.Requests.{kindOf}
 use Rattle.paper.specs.Refusals.{isHex}
 use Rattle.paper.specs.Module.{isWritable, readRefusal, writeRefusal}
 use Rattle.lines.specs.declared.Read.{Read}
@@ -20,17 +20,16 @@ use Rattle.lines.specs.declared.Wrote.{Wrote}
 use Rattle.lines.specs.declared.Wrote.the-variants.{Line, Rejected}
 use Rattle.lines.specs.Reading.{readOf, frameAfter, wroteOf, lineAfter}
 use Rattle.lines.specs.RoundTrip.{WrittenReads, ReadWrites, OneLine}
-use Rattle.lines.proofs.Fitting.{firstOf, read-by, write-by}
-use Rattle.lines.proofs.Outcomes.{read-frame, write-line}
+use Rattle.lines.proofs.Fitting.{own}
+use Rattle.lines.proofs.Outcomes.{read-turns, read-frame, write-turns, write-line}
 
 -- ── what an accepted line or frame has passed ──
 
-none-of : (a b c d : Bool) → firstOf a b c d ≡ 0 → (a ≡ false) × (b ≡ false) × (c ≡ false) × (d ≡ false)
-none-of true b c d h = absurd (omega arith)
-none-of false true c d h = absurd (omega arith)
-none-of false false true d h = absurd (omega arith)
-none-of false false false true h = absurd (omega arith)
-none-of false false false false h = (refl, refl, refl, refl)
+none-of : (a d t : Bool) (n : ℕ) → eqb n 0 ≡ t → pick a 1 (pick t (pick d 15 0) n) ≡ 0 → (a ≡ false) × (n ≡ 0) × (d ≡ false)
+none-of true d t n e h = absurd (omega arith)
+none-of false d false n e h = absurd (eqb-false n 0 e h)
+none-of false true true n e h = absurd (omega arith)
+none-of false false true n e h = (refl, eqb-true n 0 e, refl)
 
 opposite-no : (p : Bool) → opposite p ≡ false → p ≡ true
 opposite-no true h = refl
@@ -51,29 +50,28 @@ wrote-zero f n r false e h = let z : _≡_ {A = ℕ} 0 1 = cc in absurd (omega a
 
 record GoodLine (l : List ℕ) (space : ℕ) : Type 0 where
   hex : isHex l .fails ≡ false
-  kind : known (kindOf (bytesOf l)) ≡ true
-  fit : fits (bytesOf l) ≡ true
-  room : ltb space (length (bytesOf l)) ≡ false
+  fit : own (bytesOf l) ≡ 0
+  room : length (bytesOf l) ≤ space
 
 good-line : (l : List ℕ) (space k n : ℕ) → readOf l space ≡ Frame k n → GoodLine l space
 unfolding readOf
 good-line l space k n h =
+    let f = bytesOf l in
     let z = read-zero l space k n (readRefusal l space) (eqb (readRefusal l space) 0) refl h in
-    let p = none-of (isHex l .fails) _ _ (ltb space (length (bytesOf l))) (sym (read-by l space) ∙ z) in
-    record { hex = p .0; kind = opposite-no _ (p .1); fit = opposite-no _ (p .2); room = p .3 }
+    let p = none-of (isHex l .fails) (ltb space (length f)) (eqb (own f) 0) (own f) refl (sym (read-turns l space) ∙ z) in
+    record { hex = p .0; fit = p .1; room = ltb-false space (length f) (p .2) }
 
 record GoodFrame (f : List ℕ) (space : ℕ) : Type 0 where
   size : isWritable f .fails ≡ false
-  kind : known (kindOf f) ≡ true
-  fit : fits f ≡ true
-  room : ltb space (2 * length f + 1) ≡ false
+  fit : own f ≡ 0
+  room : 2 * length f + 1 ≤ space
 
 good-frame : (f : List ℕ) (space n : ℕ) → wroteOf f space ≡ Line n → GoodFrame f space
 unfolding wroteOf
 good-frame f space n h =
     let z = wrote-zero f n (writeRefusal f space) (eqb (writeRefusal f space) 0) refl h in
-    let p = none-of (isWritable f .fails) _ _ (ltb space (2 * length f + 1)) (sym (write-by f space) ∙ z) in
-    record { size = p .0; kind = opposite-no _ (p .1); fit = opposite-no _ (p .2); room = p .3 }
+    let p = none-of (isWritable f .fails) (ltb space (2 * length f + 1)) (eqb (own f) 0) (own f) refl (sym (write-turns f space) ∙ z) in
+    record { size = p .0; fit = p .1; room = ltb-false space (2 * length f + 1) (p .2) }
 
 -- a good line is not empty, even, not too long, and of digits alone
 record Digits (l : List ℕ) : Type 0 where
@@ -116,12 +114,11 @@ written-reads f d e n b w room =
     let g = good-frame f (length d) n w in
     let back = bytes-of-digits f b in
     let read : readOf (digitsOf f) (length e) ≡ Frame (kindOf f) (length f) =
-    read-frame (digitsOf f) (length e) (digits-good f b (g .size)) (rw back (g .kind)) (rw back (g .fit))
-    (rw back (le-ltb (length e) (length f) room))
+    read-frame (digitsOf f) (length e) (digits-good f b (g .size)) (rw back (g .fit)) (rw back room)
     ∙ ap (λ (x : List ℕ). Frame (kindOf x) (length x)) back in
     record {
       line = digitsOf f;
-      wrote = ap (λ (r : Wrote). lineAfter r f d) (write-line f (length d) (g .size) (g .kind) (g .fit) (g .room)) ∙ rw (digits-length f);
+      wrote = ap (λ (r : Wrote). lineAfter r f d) (write-line f (length d) (g .size) (g .fit) (g .room)) ∙ rw (digits-length f);
       read = read;
       frame = ap (λ (r : Read). frameAfter r (digitsOf f) e) read ∙ rw back;
     }
@@ -142,11 +139,11 @@ read-writes l d e k n h room =
     let size = bytes-length l in
     let twice : 2 * length (bytesOf l) + 1 ≡ length l + 1 = omega (arith, ds .even) in
     let wrote : wroteOf (bytesOf l) (length e) ≡ Line (length l + 1) =
-    write-line (bytesOf l) (length e) (bytes-good l ds) (g .kind) (g .fit) (le-ltb (length e) (2 * length (bytesOf l) + 1) (omega arith))
+    write-line (bytesOf l) (length e) (bytes-good l ds) (g .fit) (omega arith)
     ∙ ap (λ (m : ℕ). Line m) twice in
     record {
       frame = bytesOf l;
-      read = ap (λ (r : Read). frameAfter r l d) (read-frame l (length d) (g .hex) (g .kind) (g .fit) (g .room));
+      read = ap (λ (r : Read). frameAfter r l d) (read-frame l (length d) (g .hex) (g .fit) (g .room));
       wrote = wrote;
       line = ap (λ (r : Wrote). lineAfter r (bytesOf l) e) wrote ∙ rw back;
     }

@@ -5,7 +5,8 @@ use mathlib.Core.List.{List, [], _∷_}
 use Prim.Native.Nat.{ℕ, _+_, _*_, _/_, _^_}
 use lib.Dec.{eqb, leb}
 use lib.ListN.{getD}
-use Rattle.seqs.specs.Choose.{pick, both}
+use Rattle.seqs.specs.Choose.{pick, both, opposite}
+use Rattle.paper.specs.Requests.{known}
 
 -- the length of each kind's frame, by the kind; of a path the shortest
 abbrev pub lengths : List ℕ
@@ -17,3 +18,7 @@ fitting k long n sides =
     pick (eqb k 1)
     (both (eqb long (74 + 32 * n)) (both (leb n 64) (eqb (sides / 2 ^ n) 0)))
     (eqb long (getD lengths k 0))
+
+-- the first of refusals 2 and 3 of such a frame, and else 0
+unfoldable pub refusalBy : (k long n sides : ℕ) → ℕ
+refusalBy k long n sides = pick (opposite (known k)) 2 (pick (opposite (fitting k long n sides)) 3 0)

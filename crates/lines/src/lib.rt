@@ -11,7 +11,7 @@ ghost use Rattle.paper.specs.Requests.{known};
 ghost use Rattle.paper.specs.Refusals.{isHex, judge};
 ghost use Rattle.paper.specs.Module.{refusalOf, frameChecks};
 ghost use Rattle.lines.specs.Reading.{readOf, frameAfter, wroteOf, lineAfter, replyLength};
-ghost use Rattle.lines.specs.Work.{fitting};
+ghost use Rattle.lines.specs.Work.{fitting, refusalBy};
 
 // What reading a line finds: its kind and how many bytes were written, or the number of the refusal.
 pub enum Read {
@@ -123,23 +123,29 @@ fn sides_of(line: &[u8]) -> u64
     )
 }
 
+// The first of refusals 2 and 3 of a frame of this kind and length, with n and sides if it is a path, and else 0.
+fn refusal_by(kind: u8, length: usize, n: u8, sides: u64) -> u8
+    ensures { λ r. ⌜ r ≡ refusalBy kind length n sides ⌝ }
+{
+    if !known_kind(kind) {
+        return 2;
+    }
+    if !frame_fits(kind, length, n, sides) {
+        return 3;
+    }
+    0
+}
+
 // The first of refusals 2 and 3 that applies to a frame, and else 0.
 pub fn frame_refusal(frame: &[u8]) -> u8
     ensures { λ r. ⌜ r ≡ refusalOf (judge (2 ∷ 3 ∷ []) [] (frameChecks (now (frame .entry)))) ⌝ }
 {
-    let kind = fields::byte_at(frame, 0);
-    if !known_kind(kind) {
-        return 2;
-    }
-    if !frame_fits(
-        kind,
+    refusal_by(
+        fields::byte_at(frame, 0),
         frame.len(),
         fields::byte_at(frame, 65),
         fields::number_at(frame, 66),
-    ) {
-        return 3;
-    }
-    0
+    )
 }
 
 // Reads a line, given without its 0A, into the frame space.
@@ -151,16 +157,15 @@ pub fn read_line(line: &[u8], frame: &mut [u8]) -> Read
         return Read::Refused(1);
     }
     let kind = hex::byte_at(line, 0);
-    if !known_kind(kind) {
-        return Read::Refused(2);
-    }
     let n = line.len() / 2;
-    if !frame_fits(kind, n, hex::byte_at(line, 65), sides_of(line)) {
-        return Read::Refused(3);
+    let refused = refusal_by(kind, n, hex::byte_at(line, 65), sides_of(line));
+    if refused != 0 {
+        return Read::Refused(refused);
     }
-    if !hex::read(line, frame) {
+    if frame.len() < n {
         return Read::Refused(15);
     }
+    hex::read(line, frame);
     Read::Frame(kind, n)
 }
 
@@ -176,21 +181,14 @@ pub fn write_frame(frame: &[u8], line: &mut [u8]) -> Wrote
     if 2122 < n {
         return Wrote::Rejected(1);
     }
-    let kind = fields::byte_at(frame, 0);
-    if !known_kind(kind) {
-        return Wrote::Rejected(2);
+    let number = frame_refusal(frame);
+    if number != 0 {
+        return Wrote::Rejected(number);
     }
-    if !frame_fits(
-        kind,
-        n,
-        fields::byte_at(frame, 65),
-        fields::number_at(frame, 66),
-    ) {
-        return Wrote::Rejected(3);
-    }
-    if !hex::write(frame, line) {
+    if line.len() < 2 * n + 1 {
         return Wrote::Rejected(15);
     }
+    hex::write(frame, line);
     Wrote::Line(2 * n + 1)
 }
 

@@ -1,103 +1,74 @@
 -- Each return is the first of document 01's tests that applies, as its callee found it.
 use mathlib.Core.Path.{_≡_, refl, sym, ap, _∙_}
 use mathlib.Core.Bool.{false}
-use Prim.Native.Nat.{_+_, _*_, _<_, _≤_}
-use borrow.Author.Tests.{eq-eqb, ne-eqb, not-true, not-false, leb-true, leb-false, lt-ltb, le-ltb}
+use mathlib.Core.List.{List}
+use Prim.Native.Nat.{ℕ, _+_, _*_}
+use borrow.Author.Tests.{eq-eqb, ne-eqb, lt-ltb, le-ltb}
 use lib.ListN.{length}
-use Rattle.seqs.specs.Over.{written-fits, written-not}
+use Rattle.seqs.specs.Over.{written-fits}
 use Rattle.hex.specs.Hex.{lineOf}
 use Rattle.hex.proofs.Laws.{line-length}
-use Rattle.paper.specs.Requests.{known}
 use Rattle.paper.specs.Module.{isWritable}
-use Rattle.lines.proofs.Fitting.{known-range, fits-found}
-use Rattle.lines.proofs.Outcomes.{write-1, write-2, write-3, write-15, write-line}
+use Rattle.lines.specs.declared.Wrote.the-variants.{Rejected}
+use Rattle.lines.proofs.Outcomes.{write-1, write-own, write-15, write-line}
 use borrow.Author.Needs.{needs}
 use Rattle.lines.proofs.write_frame.Statement.{statement}
 use Rattle.lines.proofs.write_frame.Tie as tie
 
+-- past the two tests of its length
+abbrev frame : tie.Else2 → List ℕ
+frame c = c .before .before .before .before .args .frame .now
+
+size : (c : tie.Else2) → isWritable (frame c) .fails ≡ false
+size c = rw (ne-eqb (length (frame c)) 0 (c .before .if1 .left), le-ltb 2122 (length (frame c)) (c .if2 .left))
+
 returns : tie.Need-returns
-returns c =
-    let a = c .before .before .before .args in
-    let f = a .frame .now in
-    (sym (write-1 f (length (a .line .now)) (rw (eq-eqb (length f) 0 (c .if1 .taken)))), refl)
+returns c = (sym (write-1 _ _ (rw (eq-eqb _ 0 (c .if1 .taken)))), refl)
 
 returns-2 : tie.Need-returns-2
-returns-2 c =
-    let a = c .before .before .before .before .args in
-    let f = a .frame .now in
-    (sym (write-1 f (length (a .line .now)) (rw (ne-eqb (length f) 0 (c .before .if1 .left), lt-ltb 2122 (length f) (c .if2 .taken)))), refl)
+returns-2 c = (sym (write-1 _ _ (rw (ne-eqb _ 0 (c .before .if1 .left), lt-ltb 2122 _ (c .if2 .taken)))), refl)
 
-byte-at-requires : tie.Need-byte-at-requires
-byte-at-requires c κs = search needs
-
-known-kind-requires : tie.Need-known-kind-requires
-known-kind-requires c κs = search needs
+frame-refusal-requires : tie.Need-frame-refusal-requires
+frame-refusal-requires c κs = search needs
 
 returns-3 : tie.Need-returns-3
 returns-3 c =
-    let a = c .before .before .before .before .before .before .before .args in
-    let f = a .frame .now in
-    let size : isWritable f .fails ≡ false = rw (ne-eqb (length f) 0 (c .before .before .before .before .if1 .left), le-ltb 2122 (length f) (c .before .before .before .if2 .left)) in
-    let kind = ap known (sym (c .before .before .byte-at .ensures)) ∙ sym (c .before .known-kind .ensures) ∙ not-true _ (c .if3 .taken) in
-    (sym (write-2 f (length (a .line .now)) size kind), refl)
+    let own = c .before .frame-refusal .ensures in
+    let t = c .before .before in
+    (ap (λ (n : ℕ). Rejected n) own ∙ sym (write-own (frame t) _ (size t) (λ e. c .if3 .taken (own ∙ e))), refl)
 
-byte-at-requires-2 : tie.Need-byte-at-requires-2
-byte-at-requires-2 c κs = search needs
+mul-if4 : tie.Need-mul-if4
+mul-if4 c = search needs
 
-number-at-requires : tie.Need-number-at-requires
-number-at-requires c κs = search needs
-
-frame-fits-requires : tie.Need-frame-fits-requires
-frame-fits-requires c κs = known-range (c .before .before .before .before .byte-at .result) (sym (c .before .before .before .known-kind .ensures) ∙ not-false _ (c .before .before .if3 .left))
+add-if4 : tie.Need-add-if4
+add-if4 c = search needs
 
 returns-4 : tie.Need-returns-4
 returns-4 c =
-    let a = c .before .before .before .before .before .before .before .before .before .before .before .args in
-    let f = a .frame .now in
-    let size : isWritable f .fails ≡ false = rw (ne-eqb (length f) 0 (c .before .before .before .before .before .before .before .before .if1 .left), le-ltb 2122 (length f) (c .before .before .before .before .before .before .before .if2 .left)) in
-    let kind = ap known (sym (c .before .before .before .before .before .before .byte-at .ensures)) ∙ sym (c .before .before .before .before .before .known-kind .ensures) ∙ not-false _ (c .before .before .before .before .if3 .left) in
-    let fit = fits-found f _ _ _ _ _ (c .before .frame-fits .ensures) (c .before .before .before .before .before .before .byte-at .ensures) refl (c .before .before .before .byte-at2 .ensures) (c .before .before .number-at .ensures) kind in
-    (sym (write-3 f (length (a .line .now)) size kind (fit ∙ not-true _ (c .if4 .taken))), refl)
+    let t = c .before .before .before in
+    (sym (write-15 (frame t) _ (size t) (sym (c .before .before .frame-refusal .ensures) ∙ c .before .if3 .left) (c .if4 .taken)), refl)
 
 write-requires : tie.Need-write-requires
 write-requires c κs = search needs
+
+mul-t6 : tie.Need-mul-t6
+mul-t6 c = search needs
+
+add-t7 : tie.Need-add-t7
+add-t7 c = search needs
 
 same-length : tie.Need-same-length
 same-length c = search needs
 
 returns-5 : tie.Need-returns-5
 returns-5 c =
-    let a = c .before .before .before .before .before .before .before .before .before .before .before .before .before .before .before .before .args in
-    let f = a .frame .now in
-    let d = a .line .now in
-    let size : isWritable f .fails ≡ false = rw (ne-eqb (length f) 0 (c .before .before .before .before .before .before .before .before .before .before .before .before .before .if1 .left), le-ltb 2122 (length f) (c .before .before .before .before .before .before .before .before .before .before .before .before .if2 .left)) in
-    let kind = ap known (sym (c .before .before .before .before .before .before .before .before .before .before .before .byte-at .ensures)) ∙ sym (c .before .before .before .before .before .before .before .before .before .before .known-kind .ensures) ∙ not-false _ (c .before .before .before .before .before .before .before .before .before .if3 .left) in
-    let fit = fits-found f _ _ _ _ _ (c .before .before .before .before .before .before .frame-fits .ensures) (c .before .before .before .before .before .before .before .before .before .before .before .byte-at .ensures) refl (c .before .before .before .before .before .before .before .before .byte-at2 .ensures) (c .before .before .before .before .before .before .before .number-at .ensures) kind in
-    let short : length d < 2 * length f + 1 = leb-false _ _ (sym (c .before .before .before .write .ensures .0) ∙ not-true _ (c .if5 .taken)) in (
-      sym (write-15 f (length d) size kind (fit ∙ not-false _ (c .before .before .before .before .before .if4 .left)) (lt-ltb _ _ short)),
-      c .before .before .before .write .ensures .1 ∙ written-not (lineOf f) d (2 * length f + 1) (line-length f) short,
-    )
-
-mul-t11 : tie.Need-mul-t11
-mul-t11 c = search needs
-
-add-t12 : tie.Need-add-t12
-add-t12 c = search needs
-
-same-length-2 : tie.Need-same-length-2
-same-length-2 c = search needs
-
-returns-6 : tie.Need-returns-6
-returns-6 c =
-    let a = c .before .before .before .before .before .before .before .before .before .before .before .before .before .before .before .before .args in
-    let f = a .frame .now in
-    let d = a .line .now in
-    let size : isWritable f .fails ≡ false = rw (ne-eqb (length f) 0 (c .before .before .before .before .before .before .before .before .before .before .before .before .before .if1 .left), le-ltb 2122 (length f) (c .before .before .before .before .before .before .before .before .before .before .before .before .if2 .left)) in
-    let kind = ap known (sym (c .before .before .before .before .before .before .before .before .before .before .before .byte-at .ensures)) ∙ sym (c .before .before .before .before .before .before .before .before .before .before .known-kind .ensures) ∙ not-false _ (c .before .before .before .before .before .before .before .before .before .if3 .left) in
-    let fit = fits-found f _ _ _ _ _ (c .before .before .before .before .before .before .frame-fits .ensures) (c .before .before .before .before .before .before .before .before .before .before .before .byte-at .ensures) refl (c .before .before .before .before .before .before .before .before .byte-at2 .ensures) (c .before .before .before .before .before .before .before .number-at .ensures) kind in
-    let long : 2 * length f + 1 ≤ length d = leb-true _ _ (sym (c .before .before .before .write .ensures .0) ∙ not-false _ (c .if5 .left)) in (
-      sym (write-line f (length d) size kind (fit ∙ not-false _ (c .before .before .before .before .before .if4 .left)) (le-ltb _ _ long)),
-      c .before .before .before .write .ensures .1 ∙ written-fits (lineOf f) d (2 * length f + 1) (line-length f) long,
+    let room = c .before .before .before .before in
+    let own = room .before .before .frame-refusal .ensures in
+    let t = room .before .before .before in
+    let f = frame t in
+    let d = t .before .before .before .before .args .line .now in (
+      sym (write-line f (length d) (size t) (sym own ∙ room .before .if3 .left) (room .if4 .left)),
+      c .before .before .write .ensures .1 ∙ written-fits (lineOf f) d (2 * length f + 1) (line-length f) (room .if4 .left),
     )
 
 pub write-frame-spec : {M : Type 1} → statement M
@@ -106,17 +77,13 @@ write-frame-spec =
     (tie.spec
     returns
     returns-2
-    byte-at-requires
-    known-kind-requires
+    frame-refusal-requires
     returns-3
-    byte-at-requires-2
-    number-at-requires
-    frame-fits-requires
+    mul-if4
+    add-if4
     returns-4
     write-requires
+    mul-t6
+    add-t7
     same-length
-    returns-5
-    mul-t11
-    add-t12
-    same-length-2
-    returns-6)
+    returns-5)

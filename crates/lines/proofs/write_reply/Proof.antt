@@ -5,8 +5,6 @@ use borrow.Author.Needs.{needs}
 use Rattle.lines.proofs.write_reply.Statement.{statement}
 use Rattle.lines.proofs.write_reply.Tie as tie
 
--- Written where it fits.
-
 write-requires : tie.Need-write-requires
 write-requires c κs = search needs
 
@@ -21,14 +19,14 @@ same-length c = search needs
 
 returns : tie.Need-returns
 unfolding replyLength
-returns c = (rw (sym (c .before .before .before .write .ensures .0) ∙ c .if1 .taken), c .before .before .before .write .ensures .1)
+returns c = let e = c .before .before .before .write .ensures in (rw (sym (e .0) ∙ c .if1 .taken), e .1)
 
 same-length-2 : tie.Need-same-length-2
 same-length-2 c = search needs
 
 returns-2 : tie.Need-returns-2
 unfolding replyLength
-returns-2 c = (rw (sym (c .before .before .before .write .ensures .0) ∙ c .if1 .left), c .before .before .before .write .ensures .1)
+returns-2 c = let e = c .before .before .before .write .ensures in (rw (sym (e .0) ∙ c .if1 .left), e .1)
 
 pub write-reply-spec : {M : Type 1} → statement M
 write-reply-spec =
