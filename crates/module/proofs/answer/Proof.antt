@@ -49,15 +49,13 @@ returns-2 c =
     let long = sym (length-map (o .result .reply) _) ∙ o .ok .1 .1 .1 .0 .1 .0 .1 in
     let room : 195 ≤ length d = c .before .before .before .before .before .before .before .before .before .if1 .left in
     let t = answerTo sha256 (a .r) l 195 in
-    let n = length-after t (o .result) (o .ensures) long d room (not-15 (a .r) l) _ (c .before .before .write-reply .ensures .0) in
+    let wrote = c .before .before .write-reply .ensures in
+    let n = length-after t (o .result) (o .ensures) long d room (not-15 (a .r) l) _ (wrote .0) in
+    let left = written-after t (o .result) (o .ensures) long d room (not-15 (a .r) l) _ (wrote .1) in
     let e = with-room (a .r) l (length d) room in
     let said : _≡_ {A = Answered} _ (answeredOf t) =
     λ i. record { registers = o .ensures i .registers; refused = o .ensures i .refused; length = n i; blocks = o .ensures i .blocks } in
-    record {
-      returned = said ∙ sym (ap answeredOf e);
-      left =
-          written-after t (o .result) (o .ensures) long d room (not-15 (a .r) l) _ (c .before .before .write-reply .ensures .1) ∙ sym (ap (λ (x : Told). spaceAfter x d) e);
-    }
+    record { returned = said ∙ sym (ap answeredOf e); left = left ∙ sym (ap (λ (x : Told). spaceAfter x d) e) }
 
 pub answer-spec : {M : Type 1} → statement M
 answer-spec =

@@ -35,7 +35,8 @@ returns : tie.Need-returns
 returns c =
     let a = c .before .before .before .before .before .before .before .before .args in
     let read = c .before .before .before .before .before .read-line in
-    c .refuse .ensures ∙ line-refused (a .r) (a .line .now) _ (read .ensures .0) (c .before .before .before .match .keys2) _ (c .before .number .ensures)
+    let other = c .before .before .before .match .keys2 in
+    c .refuse .ensures ∙ line-refused (a .r) (a .line .now) _ (read .ensures .0) other _ (c .before .number .ensures)
 
 sub-answer : tie.Need-sub-answer
 sub-answer c = search needs
@@ -56,14 +57,14 @@ answer-requires c κs = search needs
 returns-2 : tie.Need-returns-2
 returns-2 c =
     let a = c .before .before .before .before .before .before .before .before .before .before .args in
+    let l = a .line .now in
     let read = c .before .before .before .before .before .before .before .read-line in
     let n = c .before .before .before .before .got .given .0 .1 .0 in
     let got = c .before .before .before .before .got .given .1 in
-    let found = line-read (a .r) (a .line .now) _ _ (sym got ∙ read .ensures .0) in
-    let here = read .ensures .1 ∙ ap (λ o. frameAfter o (a .line .now) (replicate 2122 0)) got in
-    c .answer .ensures
-    ∙ ap (λ (f : List ℕ). outcomeOf (answerFrame sha256 (a .r) f)) (ap (take (n - 0)) here ∙ framed (a .r) (a .line .now) (replicate 2122 0) n (found .0))
-    ∙ ap outcomeOf (found .2)
+    let found = line-read (a .r) l _ _ (sym got ∙ read .ensures .0) in
+    let here = read .ensures .1 ∙ ap (λ o. frameAfter o l (replicate 2122 0)) got in
+    let frame = ap (take (n - 0)) here ∙ framed (a .r) l (replicate 2122 0) n (found .0) in
+    c .answer .ensures ∙ ap (λ (f : List ℕ). outcomeOf (answerFrame sha256 (a .r) f)) frame ∙ ap outcomeOf (found .2)
 
 pub answer-line-spec : {M : Type 1} → statement M
 answer-line-spec =
