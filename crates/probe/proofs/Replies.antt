@@ -44,16 +44,18 @@ module _ (room : ℕ) (line : List ℕ) where
   message e h d = rw (e, le-leb (length line / 2) room h, d)
 
   -- a reply of `?`, written
-  pub said-no : (r : ℕ) (d d′ : List ℕ) → answerOf room line ≡ no → (r ≡ 2) × (d′ ≡ no ++ drop 2 d)
+  pub said-no : (d : List ℕ) {d′ : List ℕ} {r : ℕ} → answerOf room line ≡ no → (r ≡ 2) × (d′ ≡ no ++ drop 2 d)
       → (r ≡ length (answerOf room line)) × (d′ ≡ answerOf room line ++ drop r d)
-  said-no r d d′ e h = rw e (h .0, h .1 ∙ ap (λ (n : ℕ). no ++ drop n d) (sym (h .0)))
+  said-no d e h = rw e (h .0, h .1 ∙ ap (λ (n : ℕ). no ++ drop n d) (sym (h .0)))
 
   -- a digest, written: msg is the space after the message was read into it, dig its digest
-  pub said-digest : (d d′ dig msg rest : List ℕ) → answerOf room line ≡ lineOf (sha256 (bytesOf line))
+  pub said-digest : (d rest : List ℕ) {d′ dig msg : List ℕ} → answerOf room line ≡ lineOf (sha256 (bytesOf line))
       → msg ≡ bytesOf line ++ rest → dig ≡ sha256 (take (length line / 2 - 0) (drop 0 msg)) → d′ ≡ written (lineOf dig) d → 65 ≤ length d
       → (65 ≡ length (answerOf room line)) × (d′ ≡ answerOf room line ++ drop 65 d)
-  said-digest d d′ dig msg rest e h g w k =
-      let n : length (lineOf (sha256 (bytesOf line))) ≡ 65 = omega (arith, line-length (sha256 (bytesOf line)), sha256-length (bytesOf line)) in
-      let taken : take (length line / 2 - 0) (drop 0 msg) ≡ bytesOf line =
-      ap (take (length line / 2 - 0)) h ∙ take-at (bytesOf line) rest (length line / 2 - 0) (omega (arith, bytes-length line)) in
-      rw e (sym n, w ∙ ap (λ (x : List ℕ). written (lineOf x) d) (g ∙ ap sha256 taken) ∙ written-fits (lineOf (sha256 (bytesOf line))) d 65 n k)
+  said-digest d rest {msg = msg} e h g w k =
+      let m = bytesOf line in
+      let n : length (lineOf (sha256 m)) ≡ 65 = omega (arith, line-length (sha256 m), sha256-length m) in
+      let taken : take (length line / 2 - 0) (drop 0 msg) ≡ m =
+      ap (take (length line / 2 - 0)) h ∙ take-at m rest (length line / 2 - 0) (omega (arith, bytes-length line)) in
+      let said = ap (λ (x : List ℕ). written (lineOf x) d) (g ∙ ap sha256 taken) in
+      rw e (sym n, w ∙ said ∙ written-fits (lineOf (sha256 m)) d 65 n k)

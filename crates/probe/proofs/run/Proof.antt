@@ -9,7 +9,8 @@ use Rattle.probe.proofs.run.Statement.{statement}
 use Rattle.probe.proofs.run.Tie as tie
 
 abbrev Inv-loop : tie.InvT-loop
-Inv-loop input₀ line₀ held₀ turns₀ input line held turns = (held ≤ length line) × (length input ≡ length input₀) × (length line ≡ length line₀)
+Inv-loop input₀ line₀ held₀ turns₀ input line held turns =
+    (held ≤ length line) × (length input ≡ length input₀) × (length line ≡ length line₀)
 
 abbrev μ-loop : tie.MeasureT-loop
 μ-loop input₀ line₀ held₀ turns₀ input line held turns = turns

@@ -3,10 +3,9 @@ use mathlib.Core.Path.{_≡_, refl}
 use Prim.Native.Nat.{_-_, _≤_}
 use native.Mathlib.Omega.{arith}
 use lib.ListN.{length}
+use Rattle.pieces.specs.declared.Cut.{Cut}
+use Rattle.pieces.specs.Cutting.{Within}
 use Rattle.pieces.proofs.Laws.{found}
-use mathlib.Core.Path.{_≡_, refl}
-use Prim.Native.Nat.{_-_, _≤_}
-use Rattle.pieces.proofs.Laws.{within}
 use borrow.Author.Needs.{needs}
 use Rattle.probe.proofs.serve.Statement.{statement}
 use Rattle.probe.proofs.serve.Tie as tie
@@ -16,6 +15,14 @@ Inv-loop piece line₀ held at₀ n₀ line at n = (at ≤ length piece) × (n �
 
 abbrev μ-loop : tie.MeasureT-loop
 μ-loop piece line₀ held at₀ n₀ line at n = length piece - at
+
+-- what was cut lies within the piece and the space
+cut : (c : tie.After-next-line Inv-loop μ-loop) (s : Cut) → c .next-line .result ≡ s
+    → Within s (c .before .before .before .loop .at) (length (c .before .before .before .before .before .before .args .piece .now))
+    (length (c .before .before .before .loop .line))
+cut c s e =
+    let k = c .before .before .before .loop in
+    found _ (k .at) (k .n) (length (k .line)) _ s (c .next-line .ensures .0) e (omega arith) (omega arith)
 
 loop-holds : tie.Need-loop-holds Inv-loop μ-loop
 loop-holds c = (omega arith, omega arith, refl)
@@ -34,26 +41,24 @@ part-print-answer-start c = search needs
 
 part-print-answer-end : tie.Need-part-print-answer-end Inv-loop μ-loop
 part-print-answer-end c =
-    let k = c .before .before .before .before .before .before .before .before .before .loop in
-    let t = c .before .before .before .before .before .before .next-line in
-    let w = found (c .before .before .before .before .before .before .before .before .before .before .before .before .args .piece .now) (k .at) (k .n) (length (k .line)) _ _ (t .ensures .0) (c .before .before .next .given .1) (omega arith) (omega arith) in
-    omega (arith, t .kept .1 .1 .0)
+    let t = c .before .before .before .before .before .before in
+    let w = cut t _ (c .before .before .next .given .1) in
+    omega (arith, t .next-line .kept .1 .1 .0)
 
 print-answer-requires : tie.Need-print-answer-requires Inv-loop μ-loop
 print-answer-requires c κs = search needs
 
 loop-less : tie.Need-loop-less Inv-loop μ-loop
 loop-less c =
-    let k = c .before .before .before .before .before .before .before .before .before .before .before .loop in
-    let w = found (c .before .before .before .before .before .before .before .before .before .before .before .before .before .before .args .piece .now) (k .at) (k .n) (length (k .line)) _ _ (c .before .before .before .before .before .before .before .before .next-line .ensures .0) (c .before .before .before .before .next .given .1) (omega arith) (omega arith) in
+    let t = c .before .before .before .before in
+    let w = cut (t .before .before .before .before) _ (t .next .given .1) in
     omega arith
 
 loop-again : tie.Need-loop-again Inv-loop μ-loop
 loop-again c =
-    let k = c .before .before .before .before .before .before .before .before .before .before .before .loop in
-    let t = c .before .before .before .before .before .before .before .before .next-line in
-    let w = found (c .before .before .before .before .before .before .before .before .before .before .before .before .before .before .args .piece .now) (k .at) (k .n) (length (k .line)) _ _ (t .ensures .0) (c .before .before .before .before .next .given .1) (omega arith) (omega arith) in
-    (omega arith, omega arith, omega (arith, t .kept .1 .1 .0))
+    let t = c .before .before .before .before .before .before .before .before in
+    let w = cut t _ (c .before .before .before .before .next .given .1) in
+    (omega arith, omega arith, omega (arith, t .next-line .kept .1 .1 .0))
 
 enum-known-len : tie.Need-enum-known-len Inv-loop μ-loop
 enum-known-len c = search needs
@@ -63,10 +68,10 @@ loop-less-2 c = search needs
 
 loop-again-2 : tie.Need-loop-again-2 Inv-loop μ-loop
 loop-again-2 c =
-    let k = c .before .before .before .before .before .before .before .before .loop in
-    let t = c .before .before .before .before .before .next-line in
-    let w = found (c .before .before .before .before .before .before .before .before .before .before .before .args .piece .now) (k .at) (k .n) (length (k .line)) _ _ (t .ensures .0) (c .before .len .given .1) (omega arith) (omega arith) in
-    (omega arith, omega (arith, t .kept .1 .1 .0), omega (arith, t .kept .1 .1 .0))
+    let t = c .before .before .before .before .before in
+    let w = cut t _ (c .before .len .given .1) in
+    let k = t .next-line .kept .1 .1 .0 in
+    (omega arith, omega arith, omega arith)
 
 same-length : tie.Need-same-length Inv-loop μ-loop
 same-length c = search needs
