@@ -76,9 +76,10 @@ of-digit v true e h =
     )
 of-digit v false e h =
     let k : 9 < v = omega (arith, leb-false) in
+    let c = 87 + v in
     rw e (
-      simp (le-leb 48 (87 + v) (omega arith), lt-leb (87 + v) 57 (omega arith), le-leb 97 (87 + v) (omega arith), le-leb (87 + v) 102 (omega arith)),
-      omega (arith, value-letter (87 + v) (omega arith) (omega arith)),
+      simp (le-leb 48 c (omega arith), lt-leb c 57 (omega arith), le-leb 97 c (omega arith), le-leb c 102 (omega arith)),
+      omega (arith, value-letter c (omega arith) (omega arith)),
     )
 
 pub digit-is-digit : (v : ℕ) → v < 16 → isDigit (digitOf v) ≡ true

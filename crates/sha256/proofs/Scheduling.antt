@@ -31,7 +31,8 @@ module _ (p : List ℕ) (i : ℕ) (ws : List ℕ) (t : ℕ) (inside : t < length
   unfolding W
   extended x h e =
       let at : (k : ℕ) → k < t → getD ws k 0 ≡ getD (take t ws) k 0 = λ k l. sym (getD-take t ws k 0 l) in
-      let before : scheduled (getD ws (t - 2) 0) (getD ws (t - 7) 0) (getD ws (t - 15) 0) (getD ws (t - 16) 0)
-      ≡ scheduled (getD (take t ws) (t - 2) 0) (getD (take t ws) (t - 7) 0) (getD (take t ws) (t - 15) 0) (getD (take t ws) (t - 16) 0) =
-      λ j. scheduled (at (t - 2) (omega arith) j) (at (t - 7) (omega arith) j) (at (t - 15) (omega arith) j) (at (t - 16) (omega arith) j) in
-      stored x (rw (le-ltb t 16 h) (e ∙ before))
+      let a = at (t - 2) (omega arith) in
+      let b = at (t - 7) (omega arith) in
+      let c = at (t - 15) (omega arith) in
+      let d = at (t - 16) (omega arith) in
+      stored x (rw (le-ltb t 16 h) (e ∙ (λ j. scheduled (a j) (b j) (c j) (d j))))

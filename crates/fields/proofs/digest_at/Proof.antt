@@ -42,10 +42,11 @@ loop-again : tie.Need-loop-again Inv-loop μ-loop
 loop-again c =
     let a = c .before .before .before .before .before .args in
     let s = a .s .now in
-    let k = c .before .before .loop in (
+    let k = c .before .before .loop in
+    let b = c .byte-at .ensures ∙ sym (digest-at-byte s (a .at) (k .i) (omega arith)) in
+    let size = digest-at-length s (a .at) in (
       omega arith,
-      over-next (k .i) (digestAt s (a .at)) (replicate 32 0) (k .out) (c .byte-at .result) 0 (k .inv .1)
-          (c .byte-at .ensures ∙ sym (digest-at-byte s (a .at) (k .i) (omega arith))) (omega (arith, digest-at-length s (a .at))) (omega arith),
+      over-next (k .i) (digestAt s (a .at)) (replicate 32 0) (k .out) (c .byte-at .result) 0 (k .inv .1) b (omega arith) (omega arith),
       refl,
     )
 

@@ -40,8 +40,9 @@ mul-result c =
 add-result : tie.Need-add-result
 add-result c =
     let a = c .before .before .before .before .before .before .args in
-    let l = a .line .now in
-    omega (arith, c .before .before .value .ensures, c .value2 .ensures, value-small (getD l (2 * a .i) 0), value-small (getD l (2 * a .i + 1) 0))
+    let high = value-small (getD (a .line .now) (2 * a .i) 0) in
+    let low = value-small (getD (a .line .now) (2 * a .i + 1) 0) in
+    omega (arith, c .before .before .value .ensures, c .value2 .ensures)
 
 returns-2 : tie.Need-returns-2
 returns-2 c =

@@ -15,11 +15,15 @@ returns-2 c = let b = c .before .before .args .c in simp (le-leb 48 b (omega ari
 
 returns-3 : tie.Need-returns-3
 unfolding isDigit
-returns-3 c = let b = c .before .before .before .args .c in simp (lt-leb b 57 (omega arith), le-leb 48 b (omega arith), lt-leb 97 b (omega arith))
+returns-3 c =
+    let b = c .before .before .before .args .c in
+    simp (lt-leb b 57 (omega arith), le-leb 48 b (omega arith), lt-leb 97 b (omega arith))
 
 returns-4 : tie.Need-returns-4
 unfolding isDigit
-returns-4 c = let b = c .before .before .before .args .c in simp (lt-leb b 57 (omega arith), le-leb 48 b (omega arith), le-leb 97 b (omega arith))
+returns-4 c =
+    let b = c .before .before .before .args .c in
+    simp (lt-leb b 57 (omega arith), le-leb 48 b (omega arith), le-leb 97 b (omega arith))
 
 pub is-digit-spec : {M : Type 1} → statement M
 is-digit-spec = tie.close (tie.spec returns returns-2 returns-3 returns-4)

@@ -62,11 +62,11 @@ loop-again c =
     let n = line-length f in
     let at = digits-at f (0x0a ∷ []) i inside in
     let e : 2 * (i + 1) ≡ 2 * i + 1 + 1 = omega arith in
-    let high =
-    over-next (2 * i) (lineOf f) d (k .space) (c .before .high-digit .result) 0 (k .inv .1)
-    (c .before .high-digit .ensures ∙ sym (at .0)) (omega arith) (omega arith) in (
+    let b = c .before .high-digit .ensures ∙ sym (at .0) in
+    let b′ = c .low-digit .ensures ∙ sym (at .1) in
+    let high = over-next (2 * i) (lineOf f) d (k .space) (c .before .high-digit .result) 0 (k .inv .1) b (omega arith) (omega arith) in (
       omega arith,
-      rw e (over-next (2 * i + 1) (lineOf f) d _ (c .low-digit .result) 0 high (c .low-digit .ensures ∙ sym (at .1)) (omega arith) (omega arith)),
+      rw e (over-next (2 * i + 1) (lineOf f) d _ (c .low-digit .result) 0 high b′ (omega arith) (omega arith)),
       simp length-set (omega arith),
     )
 

@@ -21,8 +21,8 @@ returns : tie.Need-returns
 unfolding blockWith
 returns c =
     let a = c .before .before .before .before .before .before .args in
-    c .sum .ensures
-    ∙ ap (added (a .s)) (c .before .turns .ensures ∙ ap (λ (l : List _). turnsFrom 64 0 (now (a .ks)) l (a .s)) (c .before .before .before .fill .ensures))
+    let filled = ap (λ (l : List _). turnsFrom 64 0 (now (a .ks)) l (a .s)) (c .before .before .before .fill .ensures) in
+    c .sum .ensures ∙ ap (added (a .s)) (c .before .turns .ensures ∙ filled)
 
 pub block-spec : {M : Type 1} → statement M
 block-spec = tie.close (tie.spec fill-requires turns-requires sum-requires returns)

@@ -33,7 +33,9 @@ add-if3 : tie.Need-add-if3
 add-if3 c = search needs
 
 returns-3 : tie.Need-returns-3
-returns-3 c = let a = c .before .before .before .before .before .args in sym (in-zeros (now (a .message)) (a .i) (omega arith) (omega arith))
+returns-3 c =
+    let a = c .before .before .before .before .before .args in
+    sym (in-zeros (now (a .message)) (a .i) (omega arith) (omega arith))
 
 sub-byte : tie.Need-sub-byte
 sub-byte c = search needs

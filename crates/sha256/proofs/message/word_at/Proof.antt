@@ -44,7 +44,8 @@ returns c =
     let m = now (a .message) in
     let at : (k : ℕ) → k < length m → getD m k 0 ≡ getD (pad m) k 0 = λ k h. sym (in-message m k h) in
     let j = a .j in
-    c .join .ensures ∙ (λ i. word (at j (omega arith) i) (at (j + 1) (omega arith) i) (at (j + 2) (omega arith) i) (at (j + 3) (omega arith) i))
+    c .join .ensures
+    ∙ (λ i. word (at j (omega arith) i) (at (j + 1) (omega arith) i) (at (j + 2) (omega arith) i) (at (j + 3) (omega arith) i))
 
 add-if3 : tie.Need-add-if3
 add-if3 c = search needs
@@ -62,7 +63,8 @@ returns-2 c =
     let m = now (a .message) in
     let at : (k : ℕ) → length m < k → k + 8 < blocks (length m) * 64 → 0 ≡ getD (pad m) k 0 = λ k h l. sym (in-zeros m k h l) in
     let j = a .j in
-    λ i. word (at j (omega arith) (omega arith) i) (at (j + 1) (omega arith) (omega arith) i) (at (j + 2) (omega arith) (omega arith) i) (at (j + 3) (omega arith) (omega arith) i)
+    λ i. word (at j (omega arith) (omega arith) i) (at (j + 1) (omega arith) (omega arith) i)
+    (at (j + 2) (omega arith) (omega arith) i) (at (j + 3) (omega arith) (omega arith) i)
 
 padded-requires : tie.Need-padded-requires
 padded-requires c κs = search needs

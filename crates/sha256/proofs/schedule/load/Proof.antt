@@ -47,12 +47,12 @@ loop-less c = search needs
 
 loop-again : tie.Need-loop-again Inv-loop μ-loop
 loop-again c =
-    let p = c .before .before in
     let a = c .before .before .before .before .args in
-    let k = p .loop in (
+    let k = c .before .before .loop in
+    let w = c .word-at in (
       search needs,
       simp length-set (omega arith),
-      loaded (pad (now (a .message))) (a .i) (k .ws) (k .t) (omega arith) (k .inv .2) (c .word-at .result) (omega arith) (c .word-at .ensures),
+      loaded (pad (now (a .message))) (a .i) (k .ws) (k .t) (omega arith) (k .inv .2) (w .result) (omega arith) (w .ensures),
     )
 
 returns : tie.Need-returns Inv-loop μ-loop
