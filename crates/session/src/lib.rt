@@ -57,7 +57,8 @@ pub fn serve(
     held: usize,
     out: &mut [u8],
 ) -> Served
-    ensures { λ o. ⌜ ServedAs (servedOf r (now (piece .entry)) at (now (line .entry)) held (now (out .entry))) o (now (line .exit)) (now (out .exit)) ⌝ }
+    ensures { λ o. ⌜ ServedAs (servedOf r (now (piece .entry)) at (now (line .entry)) held (now (out .entry))) o
+        (now (line .exit)) (now (out .exit)) ⌝ }
 {
     let mut registers = r;
     let mut next = at;
@@ -97,7 +98,8 @@ pub fn serve(
 
 // At the end of the input: what is held of a last line without 0A, if anything is, is answered as a line.
 pub fn finish(r: Registers, line: &[u8], held: usize, out: &mut [u8]) -> usize
-    ensures { λ n. ⌜ FinishedAs (lastReply r (take held (now (line .entry))) (length (now (out .entry)))) (now (out .entry)) n (now (out .exit)) ⌝ }
+    ensures { λ n. ⌜ FinishedAs (lastReply r (take held (now (line .entry))) (length (now (out .entry)))) (now (out .entry)) n
+        (now (out .exit)) ⌝ }
 {
     let n = smaller(held, line.len());
     if n == 0 {

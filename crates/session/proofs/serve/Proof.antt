@@ -1,10 +1,13 @@
 -- Each turn cuts a line and answers it behind the replies so far, or uses the piece up; what the whole call comes to is
 -- what serving the rest comes to from where the turn left it.
 use mathlib.Core.Path.{_≡_, refl, _∙_}
-use Prim.Native.Nat.{_-_, _≤_}
+use mathlib.Core.List.{List}
+use Prim.Native.Nat.{ℕ, _-_, _≤_}
 use native.Mathlib.Omega.{arith}
 use borrow.Author.Tests.{lt-ltb}
 use lib.ListN.{length, drop}
+use Rattle.pieces.specs.declared.Cut.{Cut}
+use Rattle.pieces.specs.Cutting.{Within}
 use Rattle.pieces.proofs.Laws.{found}
 use Rattle.session.specs.Serving.{servedFrom, servedOf}
 use Rattle.session.proofs.Laws.{reply-fits, no-room, used-up, told, turn-line, turn-more}
@@ -22,6 +25,20 @@ Inv-loop piece at line₀ held out₀ registers₀ next₀ n₀ written₀ line 
 
 abbrev μ-loop : tie.MeasureT-loop
 μ-loop piece at line₀ held out₀ registers₀ next₀ n₀ written₀ line out registers next n written = length piece - next
+
+-- a turn's start, and its piece
+abbrev turn : tie.After-next-line Inv-loop μ-loop → tie.At-loop Inv-loop μ-loop
+turn c = c .before .before .before .before
+
+abbrev piece : tie.At-loop Inv-loop μ-loop → List ℕ
+piece l = l .before .before .before .before .before .args .piece .now
+
+-- what was cut lies within the piece and the space
+cut : (c : tie.After-next-line Inv-loop μ-loop) (s : Cut) → c .next-line .result ≡ s
+    → Within s (turn c .loop .next) (length (piece (turn c))) (length (turn c .loop .line))
+cut c s e =
+    let k = turn c .loop in
+    found (piece (turn c)) (k .next) (k .n) (length (k .line)) _ s (c .next-line .ensures .0) e (omega arith) (k .inv .0)
 
 smaller-requires : tie.Need-smaller-requires Inv-loop μ-loop
 smaller-requires c κs = search needs
@@ -44,10 +61,9 @@ returns : tie.Need-returns Inv-loop μ-loop
 returns c =
     let l = c .before .before in
     let k = l .loop in
-    told _ (k .registers) (k .next) (k .line) (k .n) (k .out) (k .written)
-    (k .inv .4
-    ∙ no-room (drop (k .next) (l .before .before .before .before .before .args .piece .now)) (k .next) (k .registers) (k .line) (k .n) (k .out) (k .written)
-    (lt-ltb _ _ (c .if1 .taken)))
+    let full = lt-ltb _ _ (c .if1 .taken) in
+    told _ _ _ _ _ _ _
+    (k .inv .4 ∙ no-room (drop (k .next) (piece l)) (k .next) (k .registers) (k .line) (k .n) (k .out) (k .written) full)
 
 next-line-requires : tie.Need-next-line-requires Inv-loop μ-loop
 next-line-requires c κs = search needs
@@ -64,12 +80,9 @@ part-reply-at-start c = search needs
 part-reply-at-end : tie.Need-part-reply-at-end Inv-loop μ-loop
 part-reply-at-end c =
     let m = c .before .before in
-    let t = m .before .before .before .before .next-line in
-    let l = m .before .before .before .before .before .before .before .before in
-    let k = l .loop in
-    let w = found (l .before .before .before .before .before .args .piece .now) (k .next) (k .n) (length (k .line)) _ _ (t .ensures .0) (m .rest .given .1)
-    (omega arith) (k .inv .0) in
-    omega (arith, t .kept .1 .1 .0)
+    let t = m .before .before .before .before in
+    let w = cut t _ (m .rest .given .1) in
+    omega (arith, t .next-line .kept .1 .1 .0)
 
 reply-at-requires : tie.Need-reply-at-requires Inv-loop μ-loop
 reply-at-requires c κs = search needs
@@ -77,7 +90,7 @@ reply-at-requires c κs = search needs
 add-written : tie.Need-add-written Inv-loop μ-loop
 add-written c =
     let t = c .before .before .before .before .reply-at in
-    let l = c .before .before .before .before .before .before .before .before .before .before .before .before .before .before .before .before .before in
+    let l = turn (c .before .before .before .before .before .before .before .before .before .before .before .before .before) in
     let k = l .loop in
     let o = k .inv .3 in
     let f = reply-fits (k .registers) _ (k .out) (k .written) (t .result) _ (t .ensures) (k .inv .2) (t .kept .1 .1 .0) in
@@ -86,12 +99,8 @@ add-written c =
 loop-less : tie.Need-loop-less Inv-loop μ-loop
 loop-less c =
     let m = c .before .before .before .before .before .before .before .before .before in
-    let t = m .before .before .before .before .next-line in
-    let l = m .before .before .before .before .before .before .before .before in
-    let k = l .loop in
     let b = m .before .before .before .before .before .before .before .loop-test .taken in
-    let w = found (l .before .before .before .before .before .args .piece .now) (k .next) (k .n) (length (k .line)) _ _ (t .ensures .0) (m .rest .given .1)
-    (omega (arith, b)) (k .inv .0) in
+    let w = cut (m .before .before .before .before) _ (m .rest .given .1) in
     omega (arith, b)
 
 loop-again : tie.Need-loop-again Inv-loop μ-loop
@@ -99,11 +108,12 @@ loop-again c =
     let r = c .before .before .before .before .reply-at in
     let m = c .before .before .before .before .before .before .before .before .before in
     let t = m .before .before .before .before .next-line in
-    let l = m .before .before .before .before .before .before .before .before in
-    let k = l .loop in
+    let room = m .before .before .before .before .before .before .if1 .left in
+    let k = turn (m .before .before .before .before) .loop in
     let f = reply-fits (k .registers) _ (k .out) (k .written) (r .result) _ (r .ensures) (k .inv .2) (r .kept .1 .1 .0) in
-    let e = turn-line _ (l .before .before .before .before .before .args .piece .now) (k .line) (k .out) _ (k .registers) (k .next) (k .n) (k .written) _
-    (k .inv .4) (m .before .before .before .before .before .before .if1 .left) (t .ensures .0) (t .ensures .1) _ _ (r .result) _ (m .rest .given .1) (r .ensures) in
+    let e =
+    turn-line _ (piece (turn (m .before .before .before .before))) (k .line) (k .out) _ (k .registers) (k .next) (k .n) (k .written) _ (k .inv .4) room
+    (t .ensures .0) (t .ensures .1) _ _ (r .result) _ (m .rest .given .1) (r .ensures) in
     let line = t .kept .1 .1 .0 in
     let out = r .kept .1 .1 .0 in
     (omega arith, line ∙ k .inv .1, omega arith, out ∙ k .inv .3, e)
@@ -118,11 +128,11 @@ loop-again-2 : tie.Need-loop-again-2 Inv-loop μ-loop
 loop-again-2 c =
     let m = c .before in
     let t = m .before .before .before .before .next-line in
-    let l = m .before .before .before .before .before .before .before .before in
-    let k = l .loop in
-    let p = l .before .before .before .before .before .args .piece .now in
-    let w = found p (k .next) (k .n) (length (k .line)) _ _ (t .ensures .0) (m .len .given .1) (omega arith) (k .inv .0) in
-    let e = turn-more _ p (k .line) (k .out) _ (k .registers) (k .next) (k .n) (k .written) _ (k .inv .4) (m .before .before .before .before .before .before .if1 .left)
+    let room = m .before .before .before .before .before .before .if1 .left in
+    let k = turn (m .before .before .before .before) .loop in
+    let w = cut (m .before .before .before .before) _ (m .len .given .1) in
+    let e =
+    turn-more _ (piece (turn (m .before .before .before .before))) (k .line) (k .out) _ (k .registers) (k .next) (k .n) (k .written) _ (k .inv .4) room
     (t .ensures .0) (t .ensures .1) _ (omega arith) (m .len .given .1) in
     let line = t .kept .1 .1 .0 in
     (omega arith, line ∙ k .inv .1, k .inv .2, k .inv .3, e)
@@ -137,9 +147,8 @@ returns-2 : tie.Need-returns-2 Inv-loop μ-loop
 returns-2 c =
     let l = c .before in
     let k = l .loop in
-    told _ (k .registers) (k .next) (k .line) (k .n) (k .out) (k .written)
-    (k .inv .4
-    ∙ used-up (l .before .before .before .before .before .args .piece .now) (k .next) (k .registers) (k .line) (k .n) (k .out) (k .written) (c .loop-test .left))
+    told _ _ _ _ _ _ _
+    (k .inv .4 ∙ used-up (piece l) (k .next) (k .registers) (k .line) (k .n) (k .out) (k .written) (c .loop-test .left))
 
 pub serve-spec : {M : Type 1} → statement M
 serve-spec =
