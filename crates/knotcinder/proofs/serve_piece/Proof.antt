@@ -1,7 +1,8 @@
 -- Each turn serves the rest of the piece from where the last one stopped, and goes on in it; what is left to find behind it is
 -- what was to find, without the lines that it answered.
 use mathlib.Core.Path.{_≡_, refl, _∙_}
-use Prim.Native.Nat.{_-_, _≤_}
+use mathlib.Core.List.{List}
+use Prim.Native.Nat.{ℕ, _-_, _≤_}
 use native.Mathlib.Omega.{arith}
 use lib.ListN.{length, drop}
 use borrow.Author.Needs.{needs}
@@ -19,6 +20,9 @@ Inv-loop piece line₀ held out₀ registers₀ at₀ n₀ line out registers at
 
 abbrev μ-loop : tie.MeasureT-loop
 μ-loop piece line₀ held out₀ registers₀ at₀ n₀ line out registers at n = length piece - at
+
+abbrev piece : tie.At-loop Inv-loop μ-loop → List ℕ
+piece l = l .before .before .before .before .args .piece .now
 
 loop-holds : tie.Need-loop-holds Inv-loop μ-loop
 loop-holds c =
@@ -39,10 +43,8 @@ part-write-all-end c =
     let t = c .before .before .before .before .before .before .serve in
     let l = c .before .before .before .before .before .before .before .before .before .before in
     let k = l .loop in
-    omega (
-      arith,
-      served-within (k .registers) (l .before .before .before .before .args .piece .now) (k .at) (k .line) (k .n) (k .out) (t .result) _ _ (t .ensures),
-    )
+    let w = served-within (k .registers) (piece l) (k .at) (k .line) (k .n) (k .out) (t .result) _ _ (t .ensures) in
+    omega arith
 
 write-all-requires : tie.Need-write-all-requires Inv-loop μ-loop
 write-all-requires c κs = search needs
@@ -58,9 +60,8 @@ returns c =
     let t = c .before .before .before .before .before .before .before .before .before .serve in
     let l = c .before .before .before .before .before .before .before .before .before .before .before .before .before in
     let k = l .loop in
-    let p = l .before .before .before .before .args .piece .now in
-    let r = served-rest (k .registers) p (k .at) (k .line) (k .n) (k .out) (t .result) _ _ (t .ensures) (k .inv .3 .fits) in
-    stopped p (t .result .next) _ (t .result .registers) _ _ _ (t .result .held) (rest-then (k .inv .3) r)
+    let r = served-rest (k .registers) (piece l) (k .at) (k .line) (k .n) (k .out) (t .result) _ _ (t .ensures) (k .inv .3 .fits) in
+    stopped (piece l) (t .result .next) _ (t .result .registers) _ _ _ (t .result .held) (rest-then (k .inv .3) r)
     (t .kept .1 .1 .1 .0 ∙ k .inv .0)
 
 loop-less : tie.Need-loop-less Inv-loop μ-loop
@@ -69,8 +70,7 @@ loop-less c =
     let l = c .before .before .before .before .before .before .before .before .before .before .before .before .before in
     let k = l .loop in
     let b = c .before .before .before .before .before .before .before .before .before .before .before .before .loop-test .taken in
-    let on = served-onward (k .registers) (l .before .before .before .before .args .piece .now) (k .at) (k .line) (k .n) (k .out) (t .result) _ _
-    (t .ensures) b (k .inv .1) in
+    let on = served-onward (k .registers) (piece l) (k .at) (k .line) (k .n) (k .out) (t .result) _ _ (t .ensures) b (k .inv .1) in
     omega arith
 
 loop-again : tie.Need-loop-again Inv-loop μ-loop
@@ -78,8 +78,7 @@ loop-again c =
     let t = c .before .before .before .before .before .before .before .before .before .serve in
     let l = c .before .before .before .before .before .before .before .before .before .before .before .before .before in
     let k = l .loop in
-    let r = served-rest (k .registers) (l .before .before .before .before .args .piece .now) (k .at) (k .line) (k .n) (k .out) (t .result) _ _
-    (t .ensures) (k .inv .3 .fits) in
+    let r = served-rest (k .registers) (piece l) (k .at) (k .line) (k .n) (k .out) (t .result) _ _ (t .ensures) (k .inv .3 .fits) in
     let line = t .kept .1 .1 .1 .0 in
     let out = t .kept .1 .1 .1 .1 .1 .0 in
     (line ∙ k .inv .0, omega (arith, k .inv .1), out ∙ k .inv .2, rest-then (k .inv .3) r)
@@ -94,8 +93,7 @@ returns-2 : tie.Need-returns-2 Inv-loop μ-loop
 returns-2 c =
     let l = c .before in
     let k = l .loop in
-    through (l .before .before .before .before .args .piece .now) (k .at) _ (k .registers) _ (k .line) _ (k .n) (k .inv .3) (k .inv .0)
-    (c .loop-test .left)
+    through (piece l) (k .at) _ (k .registers) _ (k .line) _ (k .n) (k .inv .3) (k .inv .0) (c .loop-test .left)
 
 pub serve-piece-spec : {M : Type 1} → statement M
 serve-piece-spec =

@@ -16,12 +16,15 @@ Inv-loop piece line₀ held at₀ n₀ line at n = (at ≤ length piece) × (n �
 abbrev μ-loop : tie.MeasureT-loop
 μ-loop piece line₀ held at₀ n₀ line at n = length piece - at
 
+-- a turn's start
+abbrev turn : tie.After-next-line Inv-loop μ-loop → tie.At-loop Inv-loop μ-loop
+turn c = c .before .before .before
+
 -- what was cut lies within the piece and the space
 cut : (c : tie.After-next-line Inv-loop μ-loop) (s : Cut) → c .next-line .result ≡ s
-    → Within s (c .before .before .before .loop .at) (length (c .before .before .before .before .before .before .args .piece .now))
-    (length (c .before .before .before .loop .line))
+    → Within s (turn c .loop .at) (length (turn c .before .before .before .args .piece .now)) (length (turn c .loop .line))
 cut c s e =
-    let k = c .before .before .before .loop in
+    let k = turn c .loop in
     found _ (k .at) (k .n) (length (k .line)) _ s (c .next-line .ensures .0) e (omega arith) (omega arith)
 
 loop-holds : tie.Need-loop-holds Inv-loop μ-loop

@@ -107,14 +107,14 @@ loop-again : tie.Need-loop-again Inv-loop μ-loop
 loop-again c =
     let r = c .before .before .before .before .reply-at in
     let m = c .before .before .before .before .before .before .before .before .before in
-    let t = m .before .before .before .before .next-line in
-    let room = m .before .before .before .before .before .before .if1 .left in
-    let k = turn (m .before .before .before .before) .loop in
+    let t = m .before .before .before .before in
+    let k = turn t .loop in
+    let found = t .next-line .ensures in
     let f = reply-fits (k .registers) _ (k .out) (k .written) (r .result) _ (r .ensures) (k .inv .2) (r .kept .1 .1 .0) in
     let e =
-    turn-line _ (piece (turn (m .before .before .before .before))) (k .line) (k .out) _ (k .registers) (k .next) (k .n) (k .written) _ (k .inv .4) room
-    (t .ensures .0) (t .ensures .1) _ _ (r .result) _ (m .rest .given .1) (r .ensures) in
-    let line = t .kept .1 .1 .0 in
+    turn-line _ (piece (turn t)) (k .line) (k .out) _ (k .registers) (k .next) (k .n) (k .written) _ (k .inv .4)
+    (t .before .before .if1 .left) (found .0) (found .1) _ _ (r .result) _ (m .rest .given .1) (r .ensures) in
+    let line = t .next-line .kept .1 .1 .0 in
     let out = r .kept .1 .1 .0 in
     (omega arith, line ∙ k .inv .1, omega arith, out ∙ k .inv .3, e)
 
@@ -127,14 +127,14 @@ loop-less-2 c = search needs
 loop-again-2 : tie.Need-loop-again-2 Inv-loop μ-loop
 loop-again-2 c =
     let m = c .before in
-    let t = m .before .before .before .before .next-line in
-    let room = m .before .before .before .before .before .before .if1 .left in
-    let k = turn (m .before .before .before .before) .loop in
-    let w = cut (m .before .before .before .before) _ (m .len .given .1) in
+    let t = m .before .before .before .before in
+    let k = turn t .loop in
+    let found = t .next-line .ensures in
+    let w = cut t _ (m .len .given .1) in
     let e =
-    turn-more _ (piece (turn (m .before .before .before .before))) (k .line) (k .out) _ (k .registers) (k .next) (k .n) (k .written) _ (k .inv .4) room
-    (t .ensures .0) (t .ensures .1) _ (omega arith) (m .len .given .1) in
-    let line = t .kept .1 .1 .0 in
+    turn-more _ (piece (turn t)) (k .line) (k .out) _ (k .registers) (k .next) (k .n) (k .written) _ (k .inv .4)
+    (t .before .before .if1 .left) (found .0) (found .1) _ (omega arith) (m .len .given .1) in
+    let line = t .next-line .kept .1 .1 .0 in
     (omega arith, line ∙ k .inv .1, k .inv .2, k .inv .3, e)
 
 same-length-3 : tie.Need-same-length-3 Inv-loop μ-loop
