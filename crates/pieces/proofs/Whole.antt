@@ -22,7 +22,7 @@ drop-next : (p s : List ℕ) (b i : ℕ) → drop i p ≡ b ∷ s → drop (i + 
 drop-next p s b i e = sym (drop-drop 1 i p) ∙ ap (λ (l : List ℕ). drop 1 l) e
 
 -- A line of m bytes was given: the bytes s give it, and then what the rest behind it gives with nothing held.
-abbrev AfterLine : (s rest d : List ℕ) (n m : ℕ) → Type 0
+abbrev pub AfterLine : (s rest d : List ℕ) (n m : ℕ) → Type 0
 AfterLine s rest d n m =
     (foundIn s d n ≡ take m (spaceOf s d n) ∷ foundIn rest (spaceOf s d n) 0)
     × (spaceLeft s d n ≡ spaceLeft rest (spaceOf s d n) 0)
@@ -52,19 +52,12 @@ line-in (b ∷ s) p d i n next m e h =
     line-by p s d b i n next m (eqb b 0x0a) (ltb n (length d)) refl refl f h (λ c k. line-in s p c (i + 1) k next m f)
 
 -- the call at place `at` of the piece p, with n bytes held in the space d, gave `Line next m`
-module _ (p d : List ℕ) (at n next m : ℕ) (h : cutOf (drop at p) at (length d) n ≡ Line next m) where
-  pub line-found : foundIn (drop at p) d n
-      ≡ take m (spaceOf (drop at p) d n) ∷ foundIn (drop next p) (spaceOf (drop at p) d n) 0
-  line-found = line-in (drop at p) p d at n next m refl h .0
-
-  pub line-space : spaceLeft (drop at p) d n ≡ spaceLeft (drop next p) (spaceOf (drop at p) d n) 0
-  line-space = line-in (drop at p) p d at n next m refl h .1
-
-  pub line-held : heldLeft (drop at p) d n ≡ heldLeft (drop next p) (spaceOf (drop at p) d n) 0
-  line-held = line-in (drop at p) p d at n next m refl h .2
+pub line-found : (p d : List ℕ) (at n next m : ℕ) → cutOf (drop at p) at (length d) n ≡ Line next m
+    → AfterLine (drop at p) (drop next p) d n m
+line-found p d at n next m h = line-in (drop at p) p d at n next m refl h
 
 -- The piece was used up: nothing is found, and what is left is what the call left.
-abbrev AfterMore : (s d : List ℕ) (n m : ℕ) → Type 0
+abbrev pub AfterMore : (s d : List ℕ) (n m : ℕ) → Type 0
 AfterMore s d n m = (foundIn s d n ≡ []) × (spaceLeft s d n ≡ spaceOf s d n) × (heldLeft s d n ≡ m)
 
 more-by : (s d : List ℕ) (b i n m : ℕ) (u v : Bool) → eqb b 0x0a ≡ u → ltb n (length d) ≡ v
@@ -83,15 +76,8 @@ more-in (b ∷ s) d i n m h =
     more-by s d b i n m (eqb b 0x0a) (ltb n (length d)) refl refl h (λ c k. more-in s c (i + 1) k m)
 
 -- the call gave `More m`
-module _ (p d : List ℕ) (at n m : ℕ) (h : cutOf (drop at p) at (length d) n ≡ More m) where
-  pub more-found : foundIn (drop at p) d n ≡ []
-  more-found = more-in (drop at p) d at n m h .0
-
-  pub more-space : spaceLeft (drop at p) d n ≡ spaceOf (drop at p) d n
-  more-space = more-in (drop at p) d at n m h .1
-
-  pub more-held : heldLeft (drop at p) d n ≡ m
-  more-held = more-in (drop at p) d at n m h .2
+pub more-found : (p d : List ℕ) (at n m : ℕ) → cutOf (drop at p) at (length d) n ≡ More m → AfterMore (drop at p) d n m
+more-found p d at n m h = more-in (drop at p) d at n m h
 
 -- ── what is held of a line ──
 

@@ -8,9 +8,7 @@ use Rattle.lines.proofs.path_fits.Tie as tie
 
 returns : tie.Need-returns
 unfolding fitting
-returns c =
-    let a = c .before .args in
-    simp (lt-leb _ _ (c .if1 .taken), both-no)
+returns c = simp (lt-leb _ _ (c .if1 .taken), both-no)
 
 mul-if2 : tie.Need-mul-if2
 mul-if2 c = search needs
