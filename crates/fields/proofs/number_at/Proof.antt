@@ -17,54 +17,6 @@ returns c =
     let z : getD s (a .at) 0 ≡ 0 = List·getD-eq-default s 0 (c .if1 .taken) in
     sym (rw (z, at 1, at 2, at 3, at 4, at 5, at 6, at 7))
 
-byte-at-requires : tie.Need-byte-at-requires
-byte-at-requires c κs = search needs
-
-add-byte-at : tie.Need-add-byte-at
-add-byte-at c = search needs
-
-byte-at-requires-2 : tie.Need-byte-at-requires-2
-byte-at-requires-2 c κs = search needs
-
-add-byte-at-2 : tie.Need-add-byte-at-2
-add-byte-at-2 c = search needs
-
-byte-at-requires-3 : tie.Need-byte-at-requires-3
-byte-at-requires-3 c κs = search needs
-
-add-byte-at-3 : tie.Need-add-byte-at-3
-add-byte-at-3 c = search needs
-
-byte-at-requires-4 : tie.Need-byte-at-requires-4
-byte-at-requires-4 c κs = search needs
-
-add-byte-at-4 : tie.Need-add-byte-at-4
-add-byte-at-4 c = search needs
-
-byte-at-requires-5 : tie.Need-byte-at-requires-5
-byte-at-requires-5 c κs = search needs
-
-add-byte-at-5 : tie.Need-add-byte-at-5
-add-byte-at-5 c = search needs
-
-byte-at-requires-6 : tie.Need-byte-at-requires-6
-byte-at-requires-6 c κs = search needs
-
-add-byte-at-6 : tie.Need-add-byte-at-6
-add-byte-at-6 c = search needs
-
-byte-at-requires-7 : tie.Need-byte-at-requires-7
-byte-at-requires-7 c κs = search needs
-
-add-byte-at-7 : tie.Need-add-byte-at-7
-add-byte-at-7 c = search needs
-
-byte-at-requires-8 : tie.Need-byte-at-requires-8
-byte-at-requires-8 c κs = search needs
-
-join8-requires : tie.Need-join8-requires
-join8-requires c κs = search needs
-
 returns-2 : tie.Need-returns-2
 unfolding numberAt
 returns-2 c = cc
@@ -74,20 +26,20 @@ number-at-spec =
     tie.close
     (tie.spec
     returns
-    byte-at-requires
-    add-byte-at
-    byte-at-requires-2
-    add-byte-at-2
-    byte-at-requires-3
-    add-byte-at-3
-    byte-at-requires-4
-    add-byte-at-4
-    byte-at-requires-5
-    add-byte-at-5
-    byte-at-requires-6
-    add-byte-at-6
-    byte-at-requires-7
-    add-byte-at-7
-    byte-at-requires-8
-    join8-requires
+    (λ c κs. search needs)
+    (λ c. search needs)
+    (λ c κs. search needs)
+    (λ c. search needs)
+    (λ c κs. search needs)
+    (λ c. search needs)
+    (λ c κs. search needs)
+    (λ c. search needs)
+    (λ c κs. search needs)
+    (λ c. search needs)
+    (λ c κs. search needs)
+    (λ c. search needs)
+    (λ c κs. search needs)
+    (λ c. search needs)
+    (λ c κs. search needs)
+    (λ c κs. search needs)
     returns-2)

@@ -8,18 +8,6 @@ use borrow.Author.Needs.{needs}
 use Rattle.fields.proofs.put.Statement.{statement}
 use Rattle.fields.proofs.put.Tie as tie
 
-sub-if2 : tie.Need-sub-if2
-sub-if2 c = search needs
-
-copy-requires : tie.Need-copy-requires
-copy-requires c κs = search needs
-
-same-length : tie.Need-same-length
-same-length c = search needs
-
-returns : tie.Need-returns
-returns c = search needs
-
 returns-2 : tie.Need-returns-2
 unfolding putAt
 returns-2 c =
@@ -33,4 +21,4 @@ returns-3 c =
     rw (lt-leb (a .at + length (a .source .now)) (length (a .buffer .now)) (omega arith))
 
 pub put-spec : {M : Type 1} → statement M
-put-spec = tie.close (tie.spec sub-if2 copy-requires same-length returns returns-2 returns-3)
+put-spec = tie.close (tie.spec (λ c. search needs) (λ c κs. search needs) (λ c. search needs) (λ c. search needs) returns-2 returns-3)

@@ -11,27 +11,6 @@ use Rattle.hex.proofs.byte_at.Tie as tie
 returns : tie.Need-returns
 returns c = let a = c .before .before .args in sym (bytes-past (a .line .now) (a .i) (c .if1 .taken))
 
-mul-value : tie.Need-mul-value
-mul-value c = search needs
-
-shared-slice-read-value : tie.Need-shared-slice-read-value
-shared-slice-read-value c = search needs
-
-value-requires : tie.Need-value-requires
-value-requires c κs = search needs
-
-mul-value-2 : tie.Need-mul-value-2
-mul-value-2 c = search needs
-
-add-value : tie.Need-add-value
-add-value c = search needs
-
-shared-slice-read-value-2 : tie.Need-shared-slice-read-value-2
-shared-slice-read-value-2 c = search needs
-
-value-requires-2 : tie.Need-value-requires-2
-value-requires-2 c κs = search needs
-
 mul-result : tie.Need-mul-result
 mul-result c =
     let a = c .before .before .before .before .before .before .args in
@@ -54,13 +33,13 @@ byte-at-spec =
     tie.close
     (tie.spec
     returns
-    mul-value
-    shared-slice-read-value
-    value-requires
-    mul-value-2
-    add-value
-    shared-slice-read-value-2
-    value-requires-2
+    (λ c. search needs)
+    (λ c. search needs)
+    (λ c κs. search needs)
+    (λ c. search needs)
+    (λ c. search needs)
+    (λ c. search needs)
+    (λ c κs. search needs)
     mul-result
     add-result
     returns-2)

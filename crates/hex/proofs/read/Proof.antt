@@ -17,12 +17,6 @@ returns c =
     let l = a .line .now in
     (sym (lt-leb _ _ (c .if1 .taken)), sym (written-not (bytesOf l) (a .space .now) (length l / 2) (bytes-length l) (omega arith)))
 
-fill-requires : tie.Need-fill-requires
-fill-requires c κs = search needs
-
-same-length : tie.Need-same-length
-same-length c = search needs
-
 returns-2 : tie.Need-returns-2
 returns-2 c =
     let a = c .before .before .before .before .before .before .before .args in
@@ -32,4 +26,4 @@ returns-2 c =
     )
 
 pub read-spec : {M : Type 1} → statement M
-read-spec = tie.close (tie.spec returns fill-requires same-length returns-2)
+read-spec = tie.close (tie.spec returns (λ c κs. search needs) (λ c. search needs) returns-2)

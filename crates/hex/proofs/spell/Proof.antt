@@ -20,35 +20,8 @@ abbrev μ-loop : tie.MeasureT-loop
 loop-holds : tie.Need-loop-holds Inv-loop μ-loop
 loop-holds c = (search needs, refl, refl)
 
-shared-slice-read-b : tie.Need-shared-slice-read-b Inv-loop μ-loop
-shared-slice-read-b c = search needs
-
-high-digit-requires : tie.Need-high-digit-requires Inv-loop μ-loop
-high-digit-requires c κs = search needs
-
-mul-space : tie.Need-mul-space Inv-loop μ-loop
-mul-space c = search needs
-
-slice-write-space : tie.Need-slice-write-space Inv-loop μ-loop
-slice-write-space c = search needs
-
-low-digit-requires : tie.Need-low-digit-requires Inv-loop μ-loop
-low-digit-requires c κs = search needs
-
-mul-space-2 : tie.Need-mul-space-2 Inv-loop μ-loop
-mul-space-2 c = search needs
-
-add-space : tie.Need-add-space Inv-loop μ-loop
-add-space c = search needs
-
 slice-write-space-2 : tie.Need-slice-write-space-2 Inv-loop μ-loop
 slice-write-space-2 c = simp length-set (omega arith)
-
-add-i : tie.Need-add-i Inv-loop μ-loop
-add-i c = search needs
-
-loop-less : tie.Need-loop-less Inv-loop μ-loop
-loop-less c = search needs
 
 loop-again : tie.Need-loop-again Inv-loop μ-loop
 unfolding lineOf
@@ -69,12 +42,6 @@ loop-again c =
       rw e (over-next (2 * i + 1) (lineOf f) d _ (c .low-digit .result) 0 high b′ (omega arith) (omega arith)),
       simp length-set (omega arith),
     )
-
-mul-space-3 : tie.Need-mul-space-3 Inv-loop μ-loop
-mul-space-3 c = search needs
-
-slice-write-space-3 : tie.Need-slice-write-space-3 Inv-loop μ-loop
-slice-write-space-3 c = search needs
 
 same-length : tie.Need-same-length Inv-loop μ-loop
 same-length c = simp length-set (omega arith)
@@ -97,18 +64,18 @@ spell-spec =
     Inv-loop
     μ-loop
     loop-holds
-    shared-slice-read-b
-    high-digit-requires
-    mul-space
-    slice-write-space
-    low-digit-requires
-    mul-space-2
-    add-space
+    (λ c. search needs)
+    (λ c κs. search needs)
+    (λ c. search needs)
+    (λ c. search needs)
+    (λ c κs. search needs)
+    (λ c. search needs)
+    (λ c. search needs)
     slice-write-space-2
-    add-i
-    loop-less
+    (λ c. search needs)
+    (λ c. search needs)
     loop-again
-    mul-space-3
-    slice-write-space-3
+    (λ c. search needs)
+    (λ c. search needs)
     same-length
     returns)

@@ -12,9 +12,6 @@ use Rattle.hex.proofs.value.Tie as tie
 range : (c : tie.Else1) → let b = c .before .before .args .c in (48 ≤ b) × (57 < b → (97 ≤ b) × (b ≤ 102))
 range c = digit-range _ (sym (c .before .is-digit .ensures) ∙ not-false _ (c .if1 .left))
 
-is-digit-requires : tie.Need-is-digit-requires
-is-digit-requires c κs = search needs
-
 returns : tie.Need-returns
 returns c = sym (value-other (c .before .before .args .c) (sym (c .before .is-digit .ensures) ∙ not-true _ (c .if1 .taken)))
 
@@ -32,4 +29,4 @@ returns-3 c = let r = range (c .before) .1 (c .if2 .left) in sym (value-letter _
 
 pub value-spec : {M : Type 1} → statement M
 value-spec =
-    tie.close (tie.spec is-digit-requires returns sub-result sub-result-2 returns-2 returns-3)
+    tie.close (tie.spec (λ c κs. search needs) returns sub-result sub-result-2 returns-2 returns-3)

@@ -21,17 +21,8 @@ short f d h = (sym (lt-leb (2 * length f + 1) (length d) h), sym (written-not (l
 returns : tie.Need-returns
 returns c = let a = c .before .before .before .args in short (a .bytes .now) (a .space .now) (omega arith)
 
-mul-if2 : tie.Need-mul-if2
-mul-if2 c = search needs
-
 returns-2 : tie.Need-returns-2
 returns-2 c = let a = c .before .before .before .before .args in short (a .bytes .now) (a .space .now) (omega arith)
-
-spell-requires : tie.Need-spell-requires
-spell-requires c κs = search needs
-
-same-length : tie.Need-same-length
-same-length c = search needs
 
 returns-3 : tie.Need-returns-3
 returns-3 c =
@@ -43,4 +34,4 @@ returns-3 c =
     )
 
 pub write-spec : {M : Type 1} → statement M
-write-spec = tie.close (tie.spec returns mul-if2 returns-2 spell-requires same-length returns-3)
+write-spec = tie.close (tie.spec returns (λ c. search needs) returns-2 (λ c κs. search needs) (λ c. search needs) returns-3)

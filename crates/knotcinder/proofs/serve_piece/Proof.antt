@@ -29,15 +29,6 @@ loop-holds c =
     let a = c .before .before .before .args in
     (refl, omega arith, refl, rest-start (a .piece .now) (a .r) (a .line .now) (a .held) (omega arith))
 
-serve-requires : tie.Need-serve-requires Inv-loop μ-loop
-serve-requires c κs = search needs
-
-sub-write-all : tie.Need-sub-write-all Inv-loop μ-loop
-sub-write-all c = search needs
-
-part-write-all-start : tie.Need-part-write-all-start Inv-loop μ-loop
-part-write-all-start c = search needs
-
 part-write-all-end : tie.Need-part-write-all-end Inv-loop μ-loop
 part-write-all-end c =
     let t = c .before .before .before .before .before .before .serve in
@@ -45,15 +36,6 @@ part-write-all-end c =
     let k = l .loop in
     let w = served-within (k .registers) (piece l) (k .at) (k .line) (k .n) (k .out) (t .result) _ _ (t .ensures) in
     omega arith
-
-write-all-requires : tie.Need-write-all-requires Inv-loop μ-loop
-write-all-requires c κs = search needs
-
-same-length : tie.Need-same-length Inv-loop μ-loop
-same-length c = search needs
-
-same-length-2 : tie.Need-same-length-2 Inv-loop μ-loop
-same-length-2 c = search needs
 
 returns : tie.Need-returns Inv-loop μ-loop
 returns c =
@@ -83,12 +65,6 @@ loop-again c =
     let out = t .kept .1 .1 .1 .1 .1 .0 in
     (line ∙ k .inv .0, omega (arith, k .inv .1), out ∙ k .inv .2, rest-then (k .inv .3) r)
 
-same-length-3 : tie.Need-same-length-3 Inv-loop μ-loop
-same-length-3 c = search needs
-
-same-length-4 : tie.Need-same-length-4 Inv-loop μ-loop
-same-length-4 c = search needs
-
 returns-2 : tie.Need-returns-2 Inv-loop μ-loop
 returns-2 c =
     let l = c .before in
@@ -102,16 +78,16 @@ serve-piece-spec =
     Inv-loop
     μ-loop
     loop-holds
-    serve-requires
-    sub-write-all
-    part-write-all-start
+    (λ c κs. search needs)
+    (λ c. search needs)
+    (λ c. search needs)
     part-write-all-end
-    write-all-requires
-    same-length
-    same-length-2
+    (λ c κs. search needs)
+    (λ c. search needs)
+    (λ c. search needs)
     returns
     loop-less
     loop-again
-    same-length-3
-    same-length-4
+    (λ c. search needs)
+    (λ c. search needs)
     returns-2)

@@ -6,17 +6,8 @@ use borrow.Author.Needs.{needs}
 use Rattle.lines.proofs.frame_fits.Statement.{statement}
 use Rattle.lines.proofs.frame_fits.Tie as tie
 
-path-fits-requires : tie.Need-path-fits-requires
-path-fits-requires c κs = search needs
-
 returns : tie.Need-returns
 returns c = c .path-fits .ensures ∙ rw (c .before .if1 .taken)
-
-mul-result : tie.Need-mul-result
-mul-result c = search needs
-
-array-read-result : tie.Need-array-read-result
-array-read-result c = search needs
 
 returns-2 : tie.Need-returns-2
 unfolding fitting
@@ -24,4 +15,4 @@ returns-2 c = rw (ne-eqb _ _ (c .if1 .left))
 
 pub frame-fits-spec : {M : Type 1} → statement M
 frame-fits-spec =
-    tie.close (tie.spec path-fits-requires returns mul-result array-read-result returns-2)
+    tie.close (tie.spec (λ c κs. search needs) returns (λ c. search needs) (λ c. search needs) returns-2)

@@ -10,18 +10,9 @@ returns : tie.Need-returns
 unfolding fitting
 returns c = simp (lt-leb _ _ (c .if1 .taken), both-no)
 
-mul-if2 : tie.Need-mul-if2
-mul-if2 c = search needs
-
-add-if2 : tie.Need-add-if2
-add-if2 c = search needs
-
 returns-2 : tie.Need-returns-2
 unfolding fitting
 returns-2 c = simp (ne-eqb _ _ (c .if2 .taken))
-
-sides-fit-requires : tie.Need-sides-fit-requires
-sides-fit-requires c κs = search needs
 
 returns-3 : tie.Need-returns-3
 unfolding fitting
@@ -29,4 +20,4 @@ returns-3 c = simp (le-leb _ _ (c .before .before .if1 .left), eq-eqb _ _ (c .be
 
 pub path-fits-spec : {M : Type 1} → statement M
 path-fits-spec =
-    tie.close (tie.spec returns mul-if2 add-if2 returns-2 sides-fit-requires returns-3)
+    tie.close (tie.spec returns (λ c. search needs) (λ c. search needs) returns-2 (λ c κs. search needs) returns-3)

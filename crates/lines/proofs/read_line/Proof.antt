@@ -30,23 +30,8 @@ found c =
     c .refusal-by .ensures
     ∙ own-found (bytesOf (line c)) (n .before .byte-at .ensures) size (n .byte-at2 .ensures) (c .before .sides-of .ensures)
 
-bad-line-requires : tie.Need-bad-line-requires
-bad-line-requires c κs = search needs
-
 returns : tie.Need-returns
 returns c = (sym (read-1 _ _ (sym (c .before .bad-line .ensures) ∙ c .if1 .taken)), refl)
-
-byte-at-requires : tie.Need-byte-at-requires
-byte-at-requires c κs = search needs
-
-byte-at-requires-2 : tie.Need-byte-at-requires-2
-byte-at-requires-2 c κs = search needs
-
-sides-of-requires : tie.Need-sides-of-requires
-sides-of-requires c κs = search needs
-
-refusal-by-requires : tie.Need-refusal-by-requires
-refusal-by-requires c κs = search needs
 
 returns-2 : tie.Need-returns-2
 returns-2 c =
@@ -57,12 +42,6 @@ returns-3 : tie.Need-returns-3
 returns-3 c =
     let t = c .before .before in
     (sym (read-15 (line t) _ (hex t) (sym (found t) ∙ c .before .if2 .left) (omega (arith, bytes-length (line t)))), refl)
-
-read-requires : tie.Need-read-requires
-read-requires c κs = search needs
-
-same-length : tie.Need-same-length
-same-length c = search needs
 
 returns-4 : tie.Need-returns-4
 returns-4 c =
@@ -79,14 +58,14 @@ pub read-line-spec : {M : Type 1} → statement M
 read-line-spec =
     tie.close
     (tie.spec
-    bad-line-requires
+    (λ c κs. search needs)
     returns
-    byte-at-requires
-    byte-at-requires-2
-    sides-of-requires
-    refusal-by-requires
+    (λ c κs. search needs)
+    (λ c κs. search needs)
+    (λ c κs. search needs)
+    (λ c κs. search needs)
     returns-2
     returns-3
-    read-requires
-    same-length
+    (λ c κs. search needs)
+    (λ c. search needs)
     returns-4)

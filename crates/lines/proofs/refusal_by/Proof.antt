@@ -12,9 +12,6 @@ use Rattle.lines.proofs.refusal_by.Tie as tie
 is-known : (c : tie.Else1) → known (c .before .before .args .kind) ≡ true
 is-known c = sym (c .before .known-kind .ensures) ∙ not-false _ (c .if1 .left)
 
-known-kind-requires : tie.Need-known-kind-requires
-known-kind-requires c κs = search needs
-
 returns : tie.Need-returns
 unfolding refusalBy
 returns c = rw (sym (c .before .known-kind .ensures) ∙ not-true _ (c .if1 .taken))
@@ -32,4 +29,4 @@ returns-3 c = rw (is-known (c .before .before), sym (c .before .frame-fits .ensu
 
 pub refusal-by-spec : {M : Type 1} → statement M
 refusal-by-spec =
-    tie.close (tie.spec known-kind-requires returns frame-fits-requires returns-2 returns-3)
+    tie.close (tie.spec (λ c κs. search needs) returns frame-fits-requires returns-2 returns-3)

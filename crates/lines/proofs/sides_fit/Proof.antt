@@ -12,11 +12,5 @@ returns c =
     let e : a .sides / 2 ^ 64 ≡ 0 = omega arith in
     rw (c .if1 .taken, e)
 
-shr-result : tie.Need-shr-result
-shr-result c = search needs
-
-returns-2 : tie.Need-returns-2
-returns-2 c = search needs
-
 pub sides-fit-spec : {M : Type 1} → statement M
-sides-fit-spec = tie.close (tie.spec returns shr-result returns-2)
+sides-fit-spec = tie.close (tie.spec returns (λ c. search needs) (λ c. search needs))

@@ -28,37 +28,16 @@ returns c = (sym (write-1 _ _ (rw (eq-eqb _ 0 (c .if1 .taken)))), refl)
 returns-2 : tie.Need-returns-2
 returns-2 c = (sym (write-1 _ _ (rw (ne-eqb _ 0 (c .before .if1 .left), lt-ltb 2122 _ (c .if2 .taken)))), refl)
 
-frame-refusal-requires : tie.Need-frame-refusal-requires
-frame-refusal-requires c κs = search needs
-
 returns-3 : tie.Need-returns-3
 returns-3 c =
     let own = c .before .frame-refusal .ensures in
     let t = c .before .before in
     (ap (λ (n : ℕ). Rejected n) own ∙ sym (write-own (frame t) _ (size t) (λ e. c .if3 .taken (own ∙ e))), refl)
 
-mul-if4 : tie.Need-mul-if4
-mul-if4 c = search needs
-
-add-if4 : tie.Need-add-if4
-add-if4 c = search needs
-
 returns-4 : tie.Need-returns-4
 returns-4 c =
     let t = c .before .before .before in
     (sym (write-15 (frame t) _ (size t) (sym (c .before .before .frame-refusal .ensures) ∙ c .before .if3 .left) (c .if4 .taken)), refl)
-
-write-requires : tie.Need-write-requires
-write-requires c κs = search needs
-
-mul-t6 : tie.Need-mul-t6
-mul-t6 c = search needs
-
-add-t7 : tie.Need-add-t7
-add-t7 c = search needs
-
-same-length : tie.Need-same-length
-same-length c = search needs
 
 returns-5 : tie.Need-returns-5
 returns-5 c =
@@ -77,13 +56,13 @@ write-frame-spec =
     (tie.spec
     returns
     returns-2
-    frame-refusal-requires
+    (λ c κs. search needs)
     returns-3
-    mul-if4
-    add-if4
+    (λ c. search needs)
+    (λ c. search needs)
     returns-4
-    write-requires
-    mul-t6
-    add-t7
-    same-length
+    (λ c κs. search needs)
+    (λ c. search needs)
+    (λ c. search needs)
+    (λ c. search needs)
     returns-5)

@@ -5,24 +5,9 @@ use borrow.Author.Needs.{needs}
 use Rattle.lines.proofs.write_reply.Statement.{statement}
 use Rattle.lines.proofs.write_reply.Tie as tie
 
-write-requires : tie.Need-write-requires
-write-requires c κs = search needs
-
-mul-result : tie.Need-mul-result
-mul-result c = search needs
-
-add-result : tie.Need-add-result
-add-result c = search needs
-
-same-length : tie.Need-same-length
-same-length c = search needs
-
 returns : tie.Need-returns
 unfolding replyLength
 returns c = let e = c .before .before .before .write .ensures in (rw (sym (e .0) ∙ c .if1 .taken), e .1)
-
-same-length-2 : tie.Need-same-length-2
-same-length-2 c = search needs
 
 returns-2 : tie.Need-returns-2
 unfolding replyLength
@@ -31,4 +16,4 @@ returns-2 c = let e = c .before .before .before .write .ensures in (rw (sym (e .
 pub write-reply-spec : {M : Type 1} → statement M
 write-reply-spec =
     tie.close
-    (tie.spec write-requires mul-result add-result same-length returns same-length-2 returns-2)
+    (tie.spec (λ c κs. search needs) (λ c. search needs) (λ c. search needs) (λ c. search needs) returns (λ c. search needs) returns-2)

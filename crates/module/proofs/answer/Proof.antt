@@ -18,27 +18,12 @@ returns c =
     let e = without-room (a .r) (a .line .now) (length (a .reply .now)) (c .if1 .taken) in
     record { returned = sym (ap answeredOf e); left = sym (ap (λ (t : Told). spaceAfter t (a .reply .now)) e) }
 
-answer-line-requires : tie.Need-answer-line-requires
-answer-line-requires c κs = search needs
-
-sub-write-reply : tie.Need-sub-write-reply
-sub-write-reply c = search needs
-
-part-write-reply-start : tie.Need-part-write-reply-start
-part-write-reply-start c = search needs
-
 part-write-reply-end : tie.Need-part-write-reply-end
 part-write-reply-end c =
     let a = c .before .before .before .before .before .before .before .args in
     let o = c .before .before .before .answer-line in
     let long = sym (length-map (o .result .reply) _) ∙ o .ok .1 .1 .1 .0 .1 .0 .1 in
     omega (arith, said-short (answerTo sha256 (a .r) (a .line .now) 195) (o .result) (o .ensures) long, long)
-
-write-reply-requires : tie.Need-write-reply-requires
-write-reply-requires c κs = search needs
-
-same-length : tie.Need-same-length
-same-length c = search needs
 
 returns-2 : tie.Need-returns-2
 returns-2 c =
@@ -62,10 +47,10 @@ answer-spec =
     tie.close
     (tie.spec
     returns
-    answer-line-requires
-    sub-write-reply
-    part-write-reply-start
+    (λ c κs. search needs)
+    (λ c. search needs)
+    (λ c. search needs)
     part-write-reply-end
-    write-reply-requires
-    same-length
+    (λ c κs. search needs)
+    (λ c. search needs)
     returns-2)

@@ -13,24 +13,6 @@ use borrow.Author.Needs.{needs}
 use Rattle.module.proofs.answer_line.Statement.{statement}
 use Rattle.module.proofs.answer_line.Tie as tie
 
-slice-aggregate-read-line : tie.Need-slice-aggregate-read-line
-slice-aggregate-read-line c = search needs
-
-read-line-requires : tie.Need-read-line-requires
-read-line-requires c κs = search needs
-
-enum-known-got : tie.Need-enum-known-got
-enum-known-got c = search needs
-
-enum-told : tie.Need-enum-told
-enum-told c = search needs
-
-number-requires : tie.Need-number-requires
-number-requires c κs = search needs
-
-refuse-requires : tie.Need-refuse-requires
-refuse-requires c κs = search needs
-
 returns : tie.Need-returns
 returns c =
     let a = c .before .before .before .before .before .before .before .before .args in
@@ -38,21 +20,12 @@ returns c =
     let other = c .before .before .before .match .keys2 in
     c .refuse .ensures ∙ line-refused (a .r) (a .line .now) _ (read .ensures .0) other _ (c .before .number .ensures)
 
-sub-answer : tie.Need-sub-answer
-sub-answer c = search needs
-
-part-answer-start : tie.Need-part-answer-start
-part-answer-start c = search needs
-
 part-answer-end : tie.Need-part-answer-end
 part-answer-end c =
     let a = c .before .before .before .before .before .before .before .before .args in
     let read = c .before .before .before .before .before .read-line in
     let found = line-read (a .r) (a .line .now) _ _ (sym (c .before .before .got .given .1) ∙ read .ensures .0) in
     omega (arith, found .0, found .1, read .kept .1 .0)
-
-answer-requires : tie.Need-answer-requires
-answer-requires c κs = search needs
 
 returns-2 : tie.Need-returns-2
 returns-2 c =
@@ -70,15 +43,15 @@ pub answer-line-spec : {M : Type 1} → statement M
 answer-line-spec =
     tie.close
     (tie.spec
-    slice-aggregate-read-line
-    read-line-requires
-    enum-known-got
-    enum-told
-    number-requires
-    refuse-requires
+    (λ c. search needs)
+    (λ c κs. search needs)
+    (λ c. search needs)
+    (λ c. search needs)
+    (λ c κs. search needs)
+    (λ c κs. search needs)
     returns
-    sub-answer
-    part-answer-start
+    (λ c. search needs)
+    (λ c. search needs)
     part-answer-end
-    answer-requires
+    (λ c κs. search needs)
     returns-2)

@@ -19,26 +19,11 @@ start c = c .before .before .before .before .before .before .before .before .bef
 fits : (c : tie.Else3) → length (start c .args .line .now) / 2 ≤ length (start c .args .message .now)
 fits c = leb-true _ _ (sym (c .before .before .before .read .ensures .0) ∙ not-false _ (c .if3 .left))
 
-not-a-message-requires : tie.Need-not-a-message-requires
-not-a-message-requires c κs = search needs
-
-same-length : tie.Need-same-length
-same-length c = search needs
-
 returns : tie.Need-returns
 returns c =
     let t = c .before .before .before .before in
     let a = t .before .before .before .before .args in
     said-no (length (a .message .now)) (a .line .now) (a .reply .now) (odd _ _ (t .if1 .taken)) (c .before .before .not-a-message .ensures)
-
-all-digits-requires : tie.Need-all-digits-requires
-all-digits-requires c κs = search needs
-
-not-a-message-requires-2 : tie.Need-not-a-message-requires-2
-not-a-message-requires-2 c κs = search needs
-
-same-length-2 : tie.Need-same-length-2
-same-length-2 c = search needs
 
 returns-2 : tie.Need-returns-2
 returns-2 c =
@@ -46,18 +31,6 @@ returns-2 c =
     let a = t .before .before .before .before .before .before .args in
     let other = sym (t .before .all-digits .ensures) ∙ not-true _ (t .if2 .taken) in
     said-no (length (a .message .now)) (a .line .now) (a .reply .now) (other-byte _ _ other) (c .before .before .not-a-message2 .ensures)
-
-read-requires : tie.Need-read-requires
-read-requires c κs = search needs
-
-not-a-message-requires-3 : tie.Need-not-a-message-requires-3
-not-a-message-requires-3 c κs = search needs
-
-same-length-3 : tie.Need-same-length-3
-same-length-3 c = search needs
-
-same-length-4 : tie.Need-same-length-4
-same-length-4 c = search needs
 
 returns-3 : tie.Need-returns-3
 returns-3 c =
@@ -67,31 +40,10 @@ returns-3 c =
     let short = leb-false _ _ (sym (t .before .before .before .read .ensures .0) ∙ not-true _ (t .if3 .taken)) in
     said-no (length (a .message .now)) l (a .reply .now) (too-long _ l short (omega arith)) (c .before .before .not-a-message3 .ensures)
 
-sub-digest : tie.Need-sub-digest
-sub-digest c = search needs
-
-part-digest-start : tie.Need-part-digest-start
-part-digest-start c = search needs
-
 part-digest-end : tie.Need-part-digest-end
 part-digest-end c =
     let h = fits (c .before) in
     omega (arith, c .before .before .before .before .read .kept .1 .0)
-
-digest-requires : tie.Need-digest-requires
-digest-requires c κs = search needs
-
-slice-aggregate-write : tie.Need-slice-aggregate-write
-slice-aggregate-write c = search needs
-
-write-requires : tie.Need-write-requires
-write-requires c κs = search needs
-
-same-length-5 : tie.Need-same-length-5
-same-length-5 c = search needs
-
-same-length-6 : tie.Need-same-length-6
-same-length-6 c = search needs
 
 returns-4 : tie.Need-returns-4
 returns-4 c =
@@ -109,24 +61,24 @@ pub answer-spec : {M : Type 1} → statement M
 answer-spec =
     tie.close
     (tie.spec
-    not-a-message-requires
-    same-length
+    (λ c κs. search needs)
+    (λ c. search needs)
     returns
-    all-digits-requires
-    not-a-message-requires-2
-    same-length-2
+    (λ c κs. search needs)
+    (λ c κs. search needs)
+    (λ c. search needs)
     returns-2
-    read-requires
-    not-a-message-requires-3
-    same-length-3
-    same-length-4
+    (λ c κs. search needs)
+    (λ c κs. search needs)
+    (λ c. search needs)
+    (λ c. search needs)
     returns-3
-    sub-digest
-    part-digest-start
+    (λ c. search needs)
+    (λ c. search needs)
     part-digest-end
-    digest-requires
-    slice-aggregate-write
-    write-requires
-    same-length-5
-    same-length-6
+    (λ c κs. search needs)
+    (λ c. search needs)
+    (λ c κs. search needs)
+    (λ c. search needs)
+    (λ c. search needs)
     returns-4)

@@ -8,9 +8,6 @@ use borrow.Author.Needs.{needs}
 use Rattle.probe.proofs.not_a_message.Statement.{statement}
 use Rattle.probe.proofs.not_a_message.Tie as tie
 
-slice-write-reply : tie.Need-slice-write-reply
-slice-write-reply c = search needs
-
 slice-write-reply-2 : tie.Need-slice-write-reply-2
 slice-write-reply-2 c = simp length-set (omega arith)
 
@@ -21,4 +18,4 @@ returns : tie.Need-returns
 returns c = (refl, sets-eq (0x3f ∷ 0x0a ∷ []) (c .args .reply .now) 0 (omega arith))
 
 pub not-a-message-spec : {M : Type 1} → statement M
-not-a-message-spec = tie.close (tie.spec slice-write-reply slice-write-reply-2 same-length returns)
+not-a-message-spec = tie.close (tie.spec (λ c. search needs) slice-write-reply-2 same-length returns)

@@ -18,53 +18,11 @@ abbrev μ-loop : tie.MeasureT-loop
 loop-holds : tie.Need-loop-holds Inv-loop μ-loop
 loop-holds c = (omega arith, refl, refl)
 
-read-and-serve-requires : tie.Need-read-and-serve-requires Inv-loop μ-loop
-read-and-serve-requires c κs = search needs
-
-enum-known-n : tie.Need-enum-known-n Inv-loop μ-loop
-enum-known-n c = search needs
-
-enum-known-n-2 : tie.Need-enum-known-n-2 Inv-loop μ-loop
-enum-known-n-2 c = search needs
-
-sub-print-answer : tie.Need-sub-print-answer Inv-loop μ-loop
-sub-print-answer c = search needs
-
-part-print-answer-start : tie.Need-part-print-answer-start Inv-loop μ-loop
-part-print-answer-start c = search needs
-
 part-print-answer-end : tie.Need-part-print-answer-end Inv-loop μ-loop
 part-print-answer-end c =
     let t = c .before .before .before .before .before .before .before .before .before .read-and-serve in
     let w : c .before .before .before .n2 .given .0 .0 ≡ heldOf (t .result) = sym (ap heldOf (c .before .before .before .n2 .given .1)) in
     omega (arith, t .ensures, t .kept .1 .0)
-
-print-answer-requires : tie.Need-print-answer-requires Inv-loop μ-loop
-print-answer-requires c κs = search needs
-
-same-length : tie.Need-same-length Inv-loop μ-loop
-same-length c = search needs
-
-same-length-2 : tie.Need-same-length-2 Inv-loop μ-loop
-same-length-2 c = search needs
-
-returns : tie.Need-returns Inv-loop μ-loop
-returns c = search needs
-
-same-length-3 : tie.Need-same-length-3 Inv-loop μ-loop
-same-length-3 c = search needs
-
-same-length-4 : tie.Need-same-length-4 Inv-loop μ-loop
-same-length-4 c = search needs
-
-returns-2 : tie.Need-returns-2 Inv-loop μ-loop
-returns-2 c = search needs
-
-sub-turns : tie.Need-sub-turns Inv-loop μ-loop
-sub-turns c = search needs
-
-loop-less : tie.Need-loop-less Inv-loop μ-loop
-loop-less c = search needs
 
 loop-again : tie.Need-loop-again Inv-loop μ-loop
 loop-again c =
@@ -75,15 +33,6 @@ loop-again c =
     let k = t .kept .1 .0 in
     (omega arith, omega arith, omega arith)
 
-same-length-5 : tie.Need-same-length-5 Inv-loop μ-loop
-same-length-5 c = search needs
-
-same-length-6 : tie.Need-same-length-6 Inv-loop μ-loop
-same-length-6 c = search needs
-
-returns-3 : tie.Need-returns-3 Inv-loop μ-loop
-returns-3 c = search needs
-
 pub run-spec : {M : Type 1} → statement M
 run-spec =
     tie.close
@@ -91,22 +40,22 @@ run-spec =
     Inv-loop
     μ-loop
     loop-holds
-    read-and-serve-requires
-    enum-known-n
-    enum-known-n-2
-    sub-print-answer
-    part-print-answer-start
+    (λ c κs. search needs)
+    (λ c. search needs)
+    (λ c. search needs)
+    (λ c. search needs)
+    (λ c. search needs)
     part-print-answer-end
-    print-answer-requires
-    same-length
-    same-length-2
-    returns
-    same-length-3
-    same-length-4
-    returns-2
-    sub-turns
-    loop-less
+    (λ c κs. search needs)
+    (λ c. search needs)
+    (λ c. search needs)
+    (λ c. search needs)
+    (λ c. search needs)
+    (λ c. search needs)
+    (λ c. search needs)
+    (λ c. search needs)
+    (λ c. search needs)
     loop-again
-    same-length-5
-    same-length-6
-    returns-3)
+    (λ c. search needs)
+    (λ c. search needs)
+    (λ c. search needs))

@@ -30,26 +30,11 @@ cut c s e =
 loop-holds : tie.Need-loop-holds Inv-loop μ-loop
 loop-holds c = (omega arith, omega arith, refl)
 
-next-line-requires : tie.Need-next-line-requires Inv-loop μ-loop
-next-line-requires c κs = search needs
-
-enum-known-next : tie.Need-enum-known-next Inv-loop μ-loop
-enum-known-next c = search needs
-
-sub-print-answer : tie.Need-sub-print-answer Inv-loop μ-loop
-sub-print-answer c = search needs
-
-part-print-answer-start : tie.Need-part-print-answer-start Inv-loop μ-loop
-part-print-answer-start c = search needs
-
 part-print-answer-end : tie.Need-part-print-answer-end Inv-loop μ-loop
 part-print-answer-end c =
     let t = c .before .before .before .before .before .before in
     let w = cut t _ (c .before .before .next .given .1) in
     omega (arith, t .next-line .kept .1 .1 .0)
-
-print-answer-requires : tie.Need-print-answer-requires Inv-loop μ-loop
-print-answer-requires c κs = search needs
 
 loop-less : tie.Need-loop-less Inv-loop μ-loop
 loop-less c =
@@ -63,24 +48,12 @@ loop-again c =
     let w = cut t _ (c .before .before .before .before .next .given .1) in
     (omega arith, omega arith, omega (arith, t .next-line .kept .1 .1 .0))
 
-enum-known-len : tie.Need-enum-known-len Inv-loop μ-loop
-enum-known-len c = search needs
-
-loop-less-2 : tie.Need-loop-less-2 Inv-loop μ-loop
-loop-less-2 c = search needs
-
 loop-again-2 : tie.Need-loop-again-2 Inv-loop μ-loop
 loop-again-2 c =
     let t = c .before .before .before .before .before in
     let w = cut t _ (c .before .len .given .1) in
     let k = t .next-line .kept .1 .1 .0 in
     (omega arith, omega arith, omega arith)
-
-same-length : tie.Need-same-length Inv-loop μ-loop
-same-length c = search needs
-
-returns : tie.Need-returns Inv-loop μ-loop
-returns c = search needs
 
 pub serve-spec : {M : Type 1} → statement M
 serve-spec =
@@ -89,16 +62,16 @@ serve-spec =
     Inv-loop
     μ-loop
     loop-holds
-    next-line-requires
-    enum-known-next
-    sub-print-answer
-    part-print-answer-start
+    (λ c κs. search needs)
+    (λ c. search needs)
+    (λ c. search needs)
+    (λ c. search needs)
     part-print-answer-end
-    print-answer-requires
+    (λ c κs. search needs)
     loop-less
     loop-again
-    enum-known-len
-    loop-less-2
+    (λ c. search needs)
+    (λ c. search needs)
     loop-again-2
-    same-length
-    returns)
+    (λ c. search needs)
+    (λ c. search needs))

@@ -4,21 +4,6 @@ use borrow.Author.Needs.{needs}
 use Rattle.session.proofs.reply_at.Statement.{statement}
 use Rattle.session.proofs.reply_at.Tie as tie
 
-sub-answer : tie.Need-sub-answer
-sub-answer c = search needs
-
-part-answer-start : tie.Need-part-answer-start
-part-answer-start c = search needs
-
-part-answer-end : tie.Need-part-answer-end
-part-answer-end c = search needs
-
-answer-requires : tie.Need-answer-requires
-answer-requires c κs = search needs
-
-same-length : tie.Need-same-length
-same-length c = search needs
-
 returns : tie.Need-returns
 returns c =
     let a = c .before .before .before .before .before .before .args in
@@ -27,4 +12,4 @@ returns c =
 pub reply-at-spec : {M : Type 1} → statement M
 reply-at-spec =
     tie.close
-    (tie.spec sub-answer part-answer-start part-answer-end answer-requires same-length returns)
+    (tie.spec (λ c. search needs) (λ c. search needs) (λ c. search needs) (λ c κs. search needs) (λ c. search needs) returns)

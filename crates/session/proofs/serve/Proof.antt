@@ -40,22 +40,10 @@ cut c s e =
     let k = turn c .loop in
     found (piece (turn c)) (k .next) (k .n) (length (k .line)) _ s (c .next-line .ensures .0) e (omega arith) (k .inv .0)
 
-smaller-requires : tie.Need-smaller-requires Inv-loop μ-loop
-smaller-requires c κs = search needs
-
 loop-holds : tie.Need-loop-holds Inv-loop μ-loop
 loop-holds c =
     let e = c .smaller .ensures in
     (omega arith, refl, omega arith, refl, rw e)
-
-sub-if1 : tie.Need-sub-if1 Inv-loop μ-loop
-sub-if1 c = search needs
-
-same-length : tie.Need-same-length Inv-loop μ-loop
-same-length c = search needs
-
-same-length-2 : tie.Need-same-length-2 Inv-loop μ-loop
-same-length-2 c = search needs
 
 returns : tie.Need-returns Inv-loop μ-loop
 returns c =
@@ -65,27 +53,12 @@ returns c =
     told _ _ _ _ _ _ _
     (k .inv .4 ∙ no-room (drop (k .next) (piece l)) (k .next) (k .registers) (k .line) (k .n) (k .out) (k .written) full)
 
-next-line-requires : tie.Need-next-line-requires Inv-loop μ-loop
-next-line-requires c κs = search needs
-
-enum-known-rest : tie.Need-enum-known-rest Inv-loop μ-loop
-enum-known-rest c = search needs
-
-sub-reply-at : tie.Need-sub-reply-at Inv-loop μ-loop
-sub-reply-at c = search needs
-
-part-reply-at-start : tie.Need-part-reply-at-start Inv-loop μ-loop
-part-reply-at-start c = search needs
-
 part-reply-at-end : tie.Need-part-reply-at-end Inv-loop μ-loop
 part-reply-at-end c =
     let m = c .before .before in
     let t = m .before .before .before .before in
     let w = cut t _ (m .rest .given .1) in
     omega (arith, t .next-line .kept .1 .1 .0)
-
-reply-at-requires : tie.Need-reply-at-requires Inv-loop μ-loop
-reply-at-requires c κs = search needs
 
 add-written : tie.Need-add-written Inv-loop μ-loop
 add-written c =
@@ -118,12 +91,6 @@ loop-again c =
     let out = r .kept .1 .1 .0 in
     (omega arith, line ∙ k .inv .1, omega arith, out ∙ k .inv .3, e)
 
-enum-known-len : tie.Need-enum-known-len Inv-loop μ-loop
-enum-known-len c = search needs
-
-loop-less-2 : tie.Need-loop-less-2 Inv-loop μ-loop
-loop-less-2 c = search needs
-
 loop-again-2 : tie.Need-loop-again-2 Inv-loop μ-loop
 loop-again-2 c =
     let m = c .before in
@@ -136,12 +103,6 @@ loop-again-2 c =
     (t .before .before .if1 .left) (found .0) (found .1) _ (omega arith) (m .len .given .1) in
     let line = t .next-line .kept .1 .1 .0 in
     (omega arith, line ∙ k .inv .1, k .inv .2, k .inv .3, e)
-
-same-length-3 : tie.Need-same-length-3 Inv-loop μ-loop
-same-length-3 c = search needs
-
-same-length-4 : tie.Need-same-length-4 Inv-loop μ-loop
-same-length-4 c = search needs
 
 returns-2 : tie.Need-returns-2 Inv-loop μ-loop
 returns-2 c =
@@ -156,24 +117,24 @@ serve-spec =
     (tie.spec
     Inv-loop
     μ-loop
-    smaller-requires
+    (λ c κs. search needs)
     loop-holds
-    sub-if1
-    same-length
-    same-length-2
+    (λ c. search needs)
+    (λ c. search needs)
+    (λ c. search needs)
     returns
-    next-line-requires
-    enum-known-rest
-    sub-reply-at
-    part-reply-at-start
+    (λ c κs. search needs)
+    (λ c. search needs)
+    (λ c. search needs)
+    (λ c. search needs)
     part-reply-at-end
-    reply-at-requires
+    (λ c κs. search needs)
     add-written
     loop-less
     loop-again
-    enum-known-len
-    loop-less-2
+    (λ c. search needs)
+    (λ c. search needs)
     loop-again-2
-    same-length-3
-    same-length-4
+    (λ c. search needs)
+    (λ c. search needs)
     returns-2)

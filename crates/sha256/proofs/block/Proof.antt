@@ -8,15 +8,6 @@ use borrow.Author.Needs.{needs}
 use Rattle.sha256.proofs.block.Statement.{statement}
 use Rattle.sha256.proofs.block.Tie as tie
 
-fill-requires : tie.Need-fill-requires
-fill-requires c κs = search needs
-
-turns-requires : tie.Need-turns-requires
-turns-requires c κs = search needs
-
-sum-requires : tie.Need-sum-requires
-sum-requires c κs = search needs
-
 returns : tie.Need-returns
 unfolding blockWith
 returns c =
@@ -25,4 +16,4 @@ returns c =
     c .sum .ensures ∙ ap (added (a .s)) (c .before .turns .ensures ∙ filled)
 
 pub block-spec : {M : Type 1} → statement M
-block-spec = tie.close (tie.spec fill-requires turns-requires sum-requires returns)
+block-spec = tie.close (tie.spec (λ c κs. search needs) (λ c κs. search needs) (λ c κs. search needs) returns)

@@ -27,27 +27,9 @@ Inv-loop message n ks s₀ i₀ s i = (i ≤ n) × (n ≡ blocks (length message
 abbrev μ-loop : tie.MeasureT-loop
 μ-loop message n ks s₀ i₀ s i = n - i
 
-blocks-requires : tie.Need-blocks-requires Inv-loop μ-loop
-blocks-requires c κs = search needs
-
-constants-requires : tie.Need-constants-requires Inv-loop μ-loop
-constants-requires c κs = search needs
-
-initial-requires : tie.Need-initial-requires Inv-loop μ-loop
-initial-requires c κs = search needs
-
 loop-holds : tie.Need-loop-holds Inv-loop μ-loop
 unfolding hash
 loop-holds c = (search needs, c .before .before .blocks2 .ensures, c .before .constants .ensures, c .initial .ensures)
-
-block-requires : tie.Need-block-requires Inv-loop μ-loop
-block-requires c κs = search needs
-
-add-i : tie.Need-add-i Inv-loop μ-loop
-add-i c = search needs
-
-loop-less : tie.Need-loop-less Inv-loop μ-loop
-loop-less c = search needs
 
 loop-again : tie.Need-loop-again Inv-loop μ-loop
 loop-again c =
@@ -58,9 +40,6 @@ loop-again c =
       k .inv .2,
       c .block .ensures ∙ (λ j. blockWith (k .inv .2 j) p (k .i) (k .inv .3 j)) ∙ block-taken p (k .i),
     )
-
-bytes-of-requires : tie.Need-bytes-of-requires Inv-loop μ-loop
-bytes-of-requires c κs = search needs
 
 returns : tie.Need-returns Inv-loop μ-loop
 unfolding sha256
@@ -76,13 +55,13 @@ digest-spec =
     (tie.spec
     Inv-loop
     μ-loop
-    blocks-requires
-    constants-requires
-    initial-requires
+    (λ c κs. search needs)
+    (λ c κs. search needs)
+    (λ c κs. search needs)
     loop-holds
-    block-requires
-    add-i
-    loop-less
+    (λ c κs. search needs)
+    (λ c. search needs)
+    (λ c. search needs)
     loop-again
-    bytes-of-requires
+    (λ c κs. search needs)
     returns)

@@ -8,39 +8,6 @@ use borrow.Author.Needs.{needs}
 use Rattle.sha256.proofs.put.Statement.{statement}
 use Rattle.sha256.proofs.put.Tie as tie
 
-cast-out : tie.Need-cast-out
-cast-out c = search needs
-
-element-write-out : tie.Need-element-write-out
-element-write-out c = search needs
-
-cast-out-2 : tie.Need-cast-out-2
-cast-out-2 c = search needs
-
-add-out : tie.Need-add-out
-add-out c = search needs
-
-element-write-out-2 : tie.Need-element-write-out-2
-element-write-out-2 c = search needs
-
-cast-out-3 : tie.Need-cast-out-3
-cast-out-3 c = search needs
-
-add-out-2 : tie.Need-add-out-2
-add-out-2 c = search needs
-
-element-write-out-3 : tie.Need-element-write-out-3
-element-write-out-3 c = search needs
-
-cast-out-4 : tie.Need-cast-out-4
-cast-out-4 c = search needs
-
-add-out-3 : tie.Need-add-out-3
-add-out-3 c = search needs
-
-element-write-out-4 : tie.Need-element-write-out-4
-element-write-out-4 c = search needs
-
 returns : tie.Need-returns
 returns c =
     let a = c .args in
@@ -56,15 +23,15 @@ pub put-spec : {M : Type 1} → statement M
 put-spec =
     tie.close
     (tie.spec
-    cast-out
-    element-write-out
-    cast-out-2
-    add-out
-    element-write-out-2
-    cast-out-3
-    add-out-2
-    element-write-out-3
-    cast-out-4
-    add-out-3
-    element-write-out-4
+    (λ c. search needs)
+    (λ c. search needs)
+    (λ c. search needs)
+    (λ c. search needs)
+    (λ c. search needs)
+    (λ c. search needs)
+    (λ c. search needs)
+    (λ c. search needs)
+    (λ c. search needs)
+    (λ c. search needs)
+    (λ c. search needs)
     returns)

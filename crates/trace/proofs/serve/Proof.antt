@@ -31,26 +31,11 @@ cut c s e =
 loop-holds : tie.Need-loop-holds Inv-loop μ-loop
 loop-holds c = (omega arith, omega arith, refl)
 
-next-line-requires : tie.Need-next-line-requires Inv-loop μ-loop
-next-line-requires c κs = search needs
-
-enum-known-next : tie.Need-enum-known-next Inv-loop μ-loop
-enum-known-next c = search needs
-
-sub-answer-line : tie.Need-sub-answer-line Inv-loop μ-loop
-sub-answer-line c = search needs
-
-part-answer-line-start : tie.Need-part-answer-line-start Inv-loop μ-loop
-part-answer-line-start c = search needs
-
 part-answer-line-end : tie.Need-part-answer-line-end Inv-loop μ-loop
 part-answer-line-end c =
     let t = c .before .before .before .before .before .before in
     let w = cut t _ (c .before .before .next .given .1) in
     omega (arith, t .next-line .kept .1 .1 .0)
-
-answer-line-requires : tie.Need-answer-line-requires Inv-loop μ-loop
-answer-line-requires c κs = search needs
 
 loop-less : tie.Need-loop-less Inv-loop μ-loop
 loop-less c =
@@ -65,24 +50,12 @@ loop-again c =
     let line = t .next-line .kept .1 .1 .0 in
     (omega arith, omega arith, omega arith)
 
-enum-known-len : tie.Need-enum-known-len Inv-loop μ-loop
-enum-known-len c = search needs
-
-loop-less-2 : tie.Need-loop-less-2 Inv-loop μ-loop
-loop-less-2 c = search needs
-
 loop-again-2 : tie.Need-loop-again-2 Inv-loop μ-loop
 loop-again-2 c =
     let t = c .before .before .before .before .before in
     let w = cut t _ (c .before .len .given .1) in
     let line = t .next-line .kept .1 .1 .0 in
     (omega arith, omega arith, omega arith)
-
-same-length : tie.Need-same-length Inv-loop μ-loop
-same-length c = search needs
-
-returns : tie.Need-returns Inv-loop μ-loop
-returns c = search needs
 
 pub serve-spec : {M : Type 1} → statement M
 serve-spec =
@@ -91,16 +64,16 @@ serve-spec =
     Inv-loop
     μ-loop
     loop-holds
-    next-line-requires
-    enum-known-next
-    sub-answer-line
-    part-answer-line-start
+    (λ c κs. search needs)
+    (λ c. search needs)
+    (λ c. search needs)
+    (λ c. search needs)
     part-answer-line-end
-    answer-line-requires
+    (λ c κs. search needs)
     loop-less
     loop-again
-    enum-known-len
-    loop-less-2
+    (λ c. search needs)
+    (λ c. search needs)
     loop-again-2
-    same-length
-    returns)
+    (λ c. search needs)
+    (λ c. search needs))

@@ -5,9 +5,6 @@ use borrow.Author.Needs.{needs}
 use Rattle.sha256.proofs.message.byte.Statement.{statement}
 use Rattle.sha256.proofs.message.byte.Tie as tie
 
-shr-result : tie.Need-shr-result
-shr-result c = search needs
-
 cast-result : tie.Need-cast-result
 cast-result c = record { fits = mask-lt (c .args .x / 2 ^ c .args .k) 8 }
 
@@ -15,4 +12,4 @@ returns : tie.Need-returns
 returns c = and-mask (c .args .x / 2 ^ c .args .k) 8
 
 pub byte-spec : {M : Type 1} → statement M
-byte-spec = tie.close (tie.spec shr-result cast-result returns)
+byte-spec = tie.close (tie.spec (λ c. search needs) cast-result returns)

@@ -11,9 +11,6 @@ use borrow.Author.Needs.{needs}
 use Rattle.sha256.proofs.message.padded.Statement.{statement}
 use Rattle.sha256.proofs.message.padded.Tie as tie
 
-shared-slice-read-result : tie.Need-shared-slice-read-result
-shared-slice-read-result c = search needs
-
 returns : tie.Need-returns
 returns c = let a = c .before .before .before .args in sym (in-message (now (a .message)) (a .i) (c .before .if1 .taken))
 
@@ -23,31 +20,10 @@ returns-2 c =
     let m = now (a .message) in
     sym (ap (λ (k : ℕ). getD (pad m) k 0) (c .if2 .taken) ∙ at-mark m)
 
-blocks-requires : tie.Need-blocks-requires
-blocks-requires c κs = search needs
-
-mul-end : tie.Need-mul-end
-mul-end c = search needs
-
-add-if3 : tie.Need-add-if3
-add-if3 c = search needs
-
 returns-3 : tie.Need-returns-3
 returns-3 c =
     let a = c .before .before .before .before .before .args in
     sym (in-zeros (now (a .message)) (a .i) (omega arith) (omega arith))
-
-sub-byte : tie.Need-sub-byte
-sub-byte c = search needs
-
-sub-byte-2 : tie.Need-sub-byte-2
-sub-byte-2 c = search needs
-
-mul-byte : tie.Need-mul-byte
-mul-byte c = search needs
-
-byte-requires : tie.Need-byte-requires
-byte-requires c κs = search needs
 
 returns-4 : tie.Need-returns-4
 returns-4 c =
@@ -65,15 +41,15 @@ pub padded-spec : {M : Type 1} → statement M
 padded-spec =
     tie.close
     (tie.spec
-    shared-slice-read-result
+    (λ c. search needs)
     returns
     returns-2
-    blocks-requires
-    mul-end
-    add-if3
+    (λ c κs. search needs)
+    (λ c. search needs)
+    (λ c. search needs)
     returns-3
-    sub-byte
-    sub-byte-2
-    mul-byte
-    byte-requires
+    (λ c. search needs)
+    (λ c. search needs)
+    (λ c. search needs)
+    (λ c κs. search needs)
     returns-4)

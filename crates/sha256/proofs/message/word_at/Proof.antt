@@ -10,33 +10,6 @@ use borrow.Author.Needs.{needs}
 use Rattle.sha256.proofs.message.word_at.Statement.{statement}
 use Rattle.sha256.proofs.message.word_at.Tie as tie
 
-add-if1 : tie.Need-add-if1
-add-if1 c = search needs
-
-shared-slice-read-join : tie.Need-shared-slice-read-join
-shared-slice-read-join c = search needs
-
-add-join : tie.Need-add-join
-add-join c = search needs
-
-shared-slice-read-join-2 : tie.Need-shared-slice-read-join-2
-shared-slice-read-join-2 c = search needs
-
-add-join-2 : tie.Need-add-join-2
-add-join-2 c = search needs
-
-shared-slice-read-join-3 : tie.Need-shared-slice-read-join-3
-shared-slice-read-join-3 c = search needs
-
-add-join-3 : tie.Need-add-join-3
-add-join-3 c = search needs
-
-shared-slice-read-join-4 : tie.Need-shared-slice-read-join-4
-shared-slice-read-join-4 c = search needs
-
-join-requires : tie.Need-join-requires
-join-requires c κs = search needs
-
 returns : tie.Need-returns
 unfolding wordAt
 returns c =
@@ -46,15 +19,6 @@ returns c =
     let j = a .j in
     c .join .ensures
     ∙ (λ i. word (at j (omega arith) i) (at (j + 1) (omega arith) i) (at (j + 2) (omega arith) i) (at (j + 3) (omega arith) i))
-
-add-if3 : tie.Need-add-if3
-add-if3 c = search needs
-
-blocks-requires : tie.Need-blocks-requires
-blocks-requires c κs = search needs
-
-mul-if3 : tie.Need-mul-if3
-mul-if3 c = search needs
 
 returns-2 : tie.Need-returns-2
 unfolding wordAt
@@ -66,30 +30,6 @@ returns-2 c =
     λ i. word (at j (omega arith) (omega arith) i) (at (j + 1) (omega arith) (omega arith) i)
     (at (j + 2) (omega arith) (omega arith) i) (at (j + 3) (omega arith) (omega arith) i)
 
-padded-requires : tie.Need-padded-requires
-padded-requires c κs = search needs
-
-add-padded : tie.Need-add-padded
-add-padded c = search needs
-
-padded-requires-2 : tie.Need-padded-requires-2
-padded-requires-2 c κs = search needs
-
-add-padded-2 : tie.Need-add-padded-2
-add-padded-2 c = search needs
-
-padded-requires-3 : tie.Need-padded-requires-3
-padded-requires-3 c κs = search needs
-
-add-padded-3 : tie.Need-add-padded-3
-add-padded-3 c = search needs
-
-padded-requires-4 : tie.Need-padded-requires-4
-padded-requires-4 c κs = search needs
-
-join-requires-2 : tie.Need-join-requires-2
-join-requires-2 c κs = search needs
-
 returns-3 : tie.Need-returns-3
 unfolding wordAt
 returns-3 c = cc
@@ -98,26 +38,26 @@ pub word-at-spec : {M : Type 1} → statement M
 word-at-spec =
     tie.close
     (tie.spec
-    add-if1
-    shared-slice-read-join
-    add-join
-    shared-slice-read-join-2
-    add-join-2
-    shared-slice-read-join-3
-    add-join-3
-    shared-slice-read-join-4
-    join-requires
+    (λ c. search needs)
+    (λ c. search needs)
+    (λ c. search needs)
+    (λ c. search needs)
+    (λ c. search needs)
+    (λ c. search needs)
+    (λ c. search needs)
+    (λ c. search needs)
+    (λ c κs. search needs)
     returns
-    add-if3
-    blocks-requires
-    mul-if3
+    (λ c. search needs)
+    (λ c κs. search needs)
+    (λ c. search needs)
     returns-2
-    padded-requires
-    add-padded
-    padded-requires-2
-    add-padded-2
-    padded-requires-3
-    add-padded-3
-    padded-requires-4
-    join-requires-2
+    (λ c κs. search needs)
+    (λ c. search needs)
+    (λ c κs. search needs)
+    (λ c. search needs)
+    (λ c κs. search needs)
+    (λ c. search needs)
+    (λ c κs. search needs)
+    (λ c κs. search needs)
     returns-3)

@@ -8,15 +8,6 @@ use borrow.Author.Needs.{needs}
 use Rattle.sha256.proofs.rounds.four.Statement.{statement}
 use Rattle.sha256.proofs.rounds.four.Tie as tie
 
-two-requires : tie.Need-two-requires
-two-requires c κs = search needs
-
-add-two : tie.Need-add-two
-add-two c = search needs
-
-two-requires-2 : tie.Need-two-requires-2
-two-requires-2 c κs = search needs
-
 returns : tie.Need-returns
 returns c =
     let a = c .before .before .args in
@@ -24,4 +15,4 @@ returns c =
     ∙ in-row 2 2 (a .i) (now (a .ks)) (now (a .ws)) (a .s)
 
 pub four-spec : {M : Type 1} → statement M
-four-spec = tie.close (tie.spec two-requires add-two two-requires-2 returns)
+four-spec = tie.close (tie.spec (λ c κs. search needs) (λ c. search needs) (λ c κs. search needs) returns)

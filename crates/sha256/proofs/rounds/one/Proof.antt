@@ -10,21 +10,6 @@ use borrow.Author.Needs.{needs}
 use Rattle.sha256.proofs.rounds.one.Statement.{statement}
 use Rattle.sha256.proofs.rounds.one.Tie as tie
 
-mul-turn : tie.Need-mul-turn
-mul-turn c = search needs
-
-element-copy-out-turn : tie.Need-element-copy-out-turn
-element-copy-out-turn c = search needs
-
-mul-turn-2 : tie.Need-mul-turn-2
-mul-turn-2 c = search needs
-
-element-copy-out-turn-2 : tie.Need-element-copy-out-turn-2
-element-copy-out-turn-2 c = search needs
-
-turn-requires : tie.Need-turn-requires
-turn-requires c κs = search needs
-
 returns : tie.Need-returns
 unfolding turnsFrom
 returns c =
@@ -35,9 +20,9 @@ pub one-spec : {M : Type 1} → statement M
 one-spec =
     tie.close
     (tie.spec
-    mul-turn
-    element-copy-out-turn
-    mul-turn-2
-    element-copy-out-turn-2
-    turn-requires
+    (λ c. search needs)
+    (λ c. search needs)
+    (λ c. search needs)
+    (λ c. search needs)
+    (λ c κs. search needs)
     returns)

@@ -4,39 +4,6 @@ use borrow.Author.Needs.{needs}
 use Rattle.sha256.proofs.rounds.turn.Statement.{statement}
 use Rattle.sha256.proofs.rounds.turn.Tie as tie
 
-big1-requires : tie.Need-big1-requires
-big1-requires c κs = search needs
-
-wrapping-add-u32-requires : tie.Need-wrapping-add-u32-requires
-wrapping-add-u32-requires c κs = search needs
-
-choose-requires : tie.Need-choose-requires
-choose-requires c κs = search needs
-
-wrapping-add-u32-requires-2 : tie.Need-wrapping-add-u32-requires-2
-wrapping-add-u32-requires-2 c κs = search needs
-
-wrapping-add-u32-requires-3 : tie.Need-wrapping-add-u32-requires-3
-wrapping-add-u32-requires-3 c κs = search needs
-
-wrapping-add-u32-requires-4 : tie.Need-wrapping-add-u32-requires-4
-wrapping-add-u32-requires-4 c κs = search needs
-
-big0-requires : tie.Need-big0-requires
-big0-requires c κs = search needs
-
-majority-requires : tie.Need-majority-requires
-majority-requires c κs = search needs
-
-wrapping-add-u32-requires-5 : tie.Need-wrapping-add-u32-requires-5
-wrapping-add-u32-requires-5 c κs = search needs
-
-wrapping-add-u32-requires-6 : tie.Need-wrapping-add-u32-requires-6
-wrapping-add-u32-requires-6 c κs = search needs
-
-wrapping-add-u32-requires-7 : tie.Need-wrapping-add-u32-requires-7
-wrapping-add-u32-requires-7 c κs = search needs
-
 returns : tie.Need-returns
 unfolding turned T1 T2
 returns c = cc
@@ -45,15 +12,15 @@ pub turn-spec : {M : Type 1} → statement M
 turn-spec =
     tie.close
     (tie.spec
-    big1-requires
-    wrapping-add-u32-requires
-    choose-requires
-    wrapping-add-u32-requires-2
-    wrapping-add-u32-requires-3
-    wrapping-add-u32-requires-4
-    big0-requires
-    majority-requires
-    wrapping-add-u32-requires-5
-    wrapping-add-u32-requires-6
-    wrapping-add-u32-requires-7
+    (λ c κs. search needs)
+    (λ c κs. search needs)
+    (λ c κs. search needs)
+    (λ c κs. search needs)
+    (λ c κs. search needs)
+    (λ c κs. search needs)
+    (λ c κs. search needs)
+    (λ c κs. search needs)
+    (λ c κs. search needs)
+    (λ c κs. search needs)
+    (λ c κs. search needs)
     returns)

@@ -8,15 +8,6 @@ use borrow.Author.Needs.{needs}
 use Rattle.sha256.proofs.rounds.two.Statement.{statement}
 use Rattle.sha256.proofs.rounds.two.Tie as tie
 
-one-requires : tie.Need-one-requires
-one-requires c κs = search needs
-
-add-one : tie.Need-add-one
-add-one c = search needs
-
-one-requires-2 : tie.Need-one-requires-2
-one-requires-2 c κs = search needs
-
 returns : tie.Need-returns
 returns c =
     let a = c .before .before .args in
@@ -24,4 +15,4 @@ returns c =
     ∙ in-row 1 1 (a .i) (now (a .ks)) (now (a .ws)) (a .s)
 
 pub two-spec : {M : Type 1} → statement M
-two-spec = tie.close (tie.spec one-requires add-one one-requires-2 returns)
+two-spec = tie.close (tie.spec (λ c κs. search needs) (λ c. search needs) (λ c κs. search needs) returns)

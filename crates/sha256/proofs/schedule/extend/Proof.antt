@@ -21,57 +21,6 @@ abbrev μ-loop : tie.MeasureT-loop
 loop-holds : tie.Need-loop-holds Inv-loop μ-loop
 loop-holds c = (search needs, search needs, c .before .pre .0, c .before .pre .1)
 
-sub-next : tie.Need-sub-next Inv-loop μ-loop
-sub-next c = search needs
-
-mul-next : tie.Need-mul-next Inv-loop μ-loop
-mul-next c = search needs
-
-element-copy-out-next : tie.Need-element-copy-out-next Inv-loop μ-loop
-element-copy-out-next c = search needs
-
-sub-next-2 : tie.Need-sub-next-2 Inv-loop μ-loop
-sub-next-2 c = search needs
-
-mul-next-2 : tie.Need-mul-next-2 Inv-loop μ-loop
-mul-next-2 c = search needs
-
-element-copy-out-next-2 : tie.Need-element-copy-out-next-2 Inv-loop μ-loop
-element-copy-out-next-2 c = search needs
-
-sub-next-3 : tie.Need-sub-next-3 Inv-loop μ-loop
-sub-next-3 c = search needs
-
-mul-next-3 : tie.Need-mul-next-3 Inv-loop μ-loop
-mul-next-3 c = search needs
-
-element-copy-out-next-3 : tie.Need-element-copy-out-next-3 Inv-loop μ-loop
-element-copy-out-next-3 c = search needs
-
-sub-next-4 : tie.Need-sub-next-4 Inv-loop μ-loop
-sub-next-4 c = search needs
-
-mul-next-4 : tie.Need-mul-next-4 Inv-loop μ-loop
-mul-next-4 c = search needs
-
-element-copy-out-next-4 : tie.Need-element-copy-out-next-4 Inv-loop μ-loop
-element-copy-out-next-4 c = search needs
-
-next-requires : tie.Need-next-requires Inv-loop μ-loop
-next-requires c κs = search needs
-
-mul-ws : tie.Need-mul-ws Inv-loop μ-loop
-mul-ws c = search needs
-
-element-write-ws : tie.Need-element-write-ws Inv-loop μ-loop
-element-write-ws c = search needs
-
-add-t : tie.Need-add-t Inv-loop μ-loop
-add-t c = search needs
-
-loop-less : tie.Need-loop-less Inv-loop μ-loop
-loop-less c = search needs
-
 loop-again : tie.Need-loop-again Inv-loop μ-loop
 loop-again c =
     let p = c .before .before .before .before .before .before in
@@ -98,22 +47,22 @@ extend-spec =
     Inv-loop
     μ-loop
     loop-holds
-    sub-next
-    mul-next
-    element-copy-out-next
-    sub-next-2
-    mul-next-2
-    element-copy-out-next-2
-    sub-next-3
-    mul-next-3
-    element-copy-out-next-3
-    sub-next-4
-    mul-next-4
-    element-copy-out-next-4
-    next-requires
-    mul-ws
-    element-write-ws
-    add-t
-    loop-less
+    (λ c. search needs)
+    (λ c. search needs)
+    (λ c. search needs)
+    (λ c. search needs)
+    (λ c. search needs)
+    (λ c. search needs)
+    (λ c. search needs)
+    (λ c. search needs)
+    (λ c. search needs)
+    (λ c. search needs)
+    (λ c. search needs)
+    (λ c. search needs)
+    (λ c κs. search needs)
+    (λ c. search needs)
+    (λ c. search needs)
+    (λ c. search needs)
+    (λ c. search needs)
     loop-again
     returns)

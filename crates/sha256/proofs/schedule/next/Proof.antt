@@ -4,21 +4,6 @@ use borrow.Author.Needs.{needs}
 use Rattle.sha256.proofs.schedule.next.Statement.{statement}
 use Rattle.sha256.proofs.schedule.next.Tie as tie
 
-small1-requires : tie.Need-small1-requires
-small1-requires c κs = search needs
-
-wrapping-add-u32-requires : tie.Need-wrapping-add-u32-requires
-wrapping-add-u32-requires c κs = search needs
-
-small0-requires : tie.Need-small0-requires
-small0-requires c κs = search needs
-
-wrapping-add-u32-requires-2 : tie.Need-wrapping-add-u32-requires-2
-wrapping-add-u32-requires-2 c κs = search needs
-
-wrapping-add-u32-requires-3 : tie.Need-wrapping-add-u32-requires-3
-wrapping-add-u32-requires-3 c κs = search needs
-
 returns : tie.Need-returns
 unfolding scheduled
 returns c = cc
@@ -27,9 +12,9 @@ pub next-spec : {M : Type 1} → statement M
 next-spec =
     tie.close
     (tie.spec
-    small1-requires
-    wrapping-add-u32-requires
-    small0-requires
-    wrapping-add-u32-requires-2
-    wrapping-add-u32-requires-3
+    (λ c κs. search needs)
+    (λ c κs. search needs)
+    (λ c κs. search needs)
+    (λ c κs. search needs)
+    (λ c κs. search needs)
     returns)

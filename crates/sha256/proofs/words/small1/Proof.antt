@@ -4,15 +4,9 @@ use borrow.Author.Needs.{needs}
 use Rattle.sha256.proofs.words.small1.Statement.{statement}
 use Rattle.sha256.proofs.words.small1.Tie as tie
 
-rotate-requires : tie.Need-rotate-requires
-rotate-requires c κs = search needs
-
-rotate-requires-2 : tie.Need-rotate-requires-2
-rotate-requires-2 c κs = search needs
-
 returns : tie.Need-returns
 unfolding smallSigma1
 returns c = cc
 
 pub small1-spec : {M : Type 1} → statement M
-small1-spec = tie.close (tie.spec rotate-requires rotate-requires-2 returns)
+small1-spec = tie.close (tie.spec (λ c κs. search needs) (λ c κs. search needs) returns)
