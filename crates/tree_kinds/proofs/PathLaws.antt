@@ -1,5 +1,5 @@
 -- One level of a path's fold, its end, and what a parent and a level cost.
-use mathlib.Core.Path.{_≡_, refl, ap}
+use mathlib.Core.Path.{_≡_, refl}
 use mathlib.Core.Bool.{Bool, true, false}
 use mathlib.Core.List.{List, [], _∷_}
 use Prim.Native.Nat.{ℕ, suc, _+_, _/_, _%_, _<_, _≤_}
@@ -14,7 +14,7 @@ use Rattle.sha256.specs.Hash.{sha256}
 use Rattle.paper.specs.Strings.{Dig, node, cost, parentForms, up, upForms, foldUp, foldForms}
 use Rattle.digests.specs.declared.Digest.{Digest}
 use Rattle.digests.specs.Worked.{worked}
-use Rattle.replies.proofs.Laws.{cost-append}
+use Rattle.paper.proofs.Ceilings.{cost-append}
 
 parent-by : (u v : Dig) (a b : Bool) → cost (pick a [] (pick b [] (node u v ∷ []))) ≤ 2
 parent-by u v true b = omega arith
@@ -31,10 +31,6 @@ level-by u s false = parent-cost u s
 
 pub level-cost : (u s : Dig) (bit : ℕ) → cost (upForms sha256 u s bit) ≤ 2
 level-cost u s bit = level-by u s (eqb bit 1)
-
--- a digest's count
-pub count-of : (d e : Digest) → d ≡ e → d .blocks ≡ e .blocks
-count-of d e h = ap (λ (x : Digest). x .blocks) h
 
 -- one level: d is what was worked for the sibling s at place i
 module _ (u : Dig) (bits : ℕ) (l : List Dig) (i : ℕ) (s : Dig) (g : getD l i [] ≡ s) (h : i < length l) (d : Digest)

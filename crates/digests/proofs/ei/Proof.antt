@@ -9,15 +9,6 @@ use borrow.Author.Needs.{needs}
 use Rattle.digests.proofs.ei.Statement.{statement}
 use Rattle.digests.proofs.ei.Tie as tie
 
-two-requires : tie.Need-two-requires
-two-requires c κs = search needs
-
-slice-aggregate-memorandum : tie.Need-slice-aggregate-memorandum
-slice-aggregate-memorandum c = search needs
-
-memorandum-requires : tie.Need-memorandum-requires
-memorandum-requires c κs = search needs
-
 returns : tie.Need-returns
 unfolding enc
 returns c =
@@ -27,4 +18,4 @@ returns c =
     λ i. record { bytes = e i; blocks = 2 }
 
 pub ei-spec : {M : Type 1} → statement M
-ei-spec = tie.close (tie.spec two-requires slice-aggregate-memorandum memorandum-requires returns)
+ei-spec = tie.close (tie.spec (search needs) (λ c. search needs) (search needs) returns)

@@ -7,9 +7,6 @@ use borrow.Author.Needs.{needs}
 use Rattle.digests.proofs.is_malformed.Statement.{statement}
 use Rattle.digests.proofs.is_malformed.Tie as tie
 
-is-blank-requires : tie.Need-is-blank-requires
-is-blank-requires c κs = search needs
-
 returns : tie.Need-returns
 unfolding malformed
 returns c = simp (sym (c .before .before .before .before .before .before .is-blank .ensures) ∙ c .before .before .before .before .before .if1 .taken, ne-eqb _ _ (c .if2 .taken))
@@ -29,4 +26,4 @@ unfolding malformed
 returns-4 c = simp (sym (c .before .is-blank .ensures) ∙ c .if1 .left)
 
 pub is-malformed-spec : {M : Type 1} → statement M
-is-malformed-spec = tie.close (tie.spec is-blank-requires returns returns-2 returns-3 returns-4)
+is-malformed-spec = tie.close (tie.spec (search needs) returns returns-2 returns-3 returns-4)

@@ -13,45 +13,6 @@ use borrow.Author.Needs.{needs}
 use Rattle.digests.proofs.leaf.Statement.{statement}
 use Rattle.digests.proofs.leaf.Tie as tie
 
-spelled-requires : tie.Need-spelled-requires
-spelled-requires c κs = search needs
-
-spelled-requires-2 : tie.Need-spelled-requires-2
-spelled-requires-2 c κs = search needs
-
-slice-aggregate-put : tie.Need-slice-aggregate-put
-slice-aggregate-put c = search needs
-
-slice-aggregate-put-2 : tie.Need-slice-aggregate-put-2
-slice-aggregate-put-2 c = search needs
-
-put-requires : tie.Need-put-requires
-put-requires c κs = search needs
-
-slice-aggregate-put-3 : tie.Need-slice-aggregate-put-3
-slice-aggregate-put-3 c = search needs
-
-slice-aggregate-put-4 : tie.Need-slice-aggregate-put-4
-slice-aggregate-put-4 c = search needs
-
-put-requires-2 : tie.Need-put-requires-2
-put-requires-2 c κs = search needs
-
-slice-aggregate-put-5 : tie.Need-slice-aggregate-put-5
-slice-aggregate-put-5 c = search needs
-
-slice-aggregate-put-6 : tie.Need-slice-aggregate-put-6
-slice-aggregate-put-6 c = search needs
-
-put-requires-3 : tie.Need-put-requires-3
-put-requires-3 c κs = search needs
-
-slice-aggregate-digest : tie.Need-slice-aggregate-digest
-slice-aggregate-digest c = search needs
-
-digest-requires : tie.Need-digest-requires
-digest-requires c κs = search needs
-
 returns : tie.Need-returns
 unfolding enc
 returns c =
@@ -72,17 +33,6 @@ pub leaf-spec : {M : Type 1} → statement M
 leaf-spec =
     tie.close
     (tie.spec
-    spelled-requires
-    spelled-requires-2
-    slice-aggregate-put
-    slice-aggregate-put-2
-    put-requires
-    slice-aggregate-put-3
-    slice-aggregate-put-4
-    put-requires-2
-    slice-aggregate-put-5
-    slice-aggregate-put-6
-    put-requires-3
-    slice-aggregate-digest
-    digest-requires
-    returns)
+    (search needs) (search needs) (λ c. search needs) (λ c. search needs) (search needs) (λ c. search needs)
+    (λ c. search needs) (search needs) (λ c. search needs) (λ c. search needs) (search needs) (λ c. search needs)
+    (search needs) returns)

@@ -11,42 +11,6 @@ use borrow.Author.Needs.{needs}
 use Rattle.digests.proofs.memorandum.Statement.{statement}
 use Rattle.digests.proofs.memorandum.Tie as tie
 
-array-write-s : tie.Need-array-write-s
-array-write-s c = search needs
-
-slice-aggregate-put : tie.Need-slice-aggregate-put
-slice-aggregate-put c = search needs
-
-put-requires : tie.Need-put-requires
-put-requires c κs = search needs
-
-slice-aggregate-put-2 : tie.Need-slice-aggregate-put-2
-slice-aggregate-put-2 c = search needs
-
-add-put : tie.Need-add-put
-add-put c = search needs
-
-slice-aggregate-put-3 : tie.Need-slice-aggregate-put-3
-slice-aggregate-put-3 c = search needs
-
-put-requires-2 : tie.Need-put-requires-2
-put-requires-2 c κs = search needs
-
-add-end : tie.Need-add-end
-add-end c = search needs
-
-sub-digest : tie.Need-sub-digest
-sub-digest c = search needs
-
-part-digest-start : tie.Need-part-digest-start
-part-digest-start c = search needs
-
-part-digest-end : tie.Need-part-digest-end
-part-digest-end c = search needs
-
-digest-requires : tie.Need-digest-requires
-digest-requires c κs = search needs
-
 returns : tie.Need-returns
 returns c =
     let a = c .before .before .before .before .before .before .before .before .before .before .before .args in
@@ -62,16 +26,6 @@ pub memorandum-spec : {M : Type 1} → statement M
 memorandum-spec =
     tie.close
     (tie.spec
-    array-write-s
-    slice-aggregate-put
-    put-requires
-    slice-aggregate-put-2
-    add-put
-    slice-aggregate-put-3
-    put-requires-2
-    add-end
-    sub-digest
-    part-digest-start
-    part-digest-end
-    digest-requires
-    returns)
+    (λ c. search needs) (λ c. search needs) (search needs) (λ c. search needs) (λ c. search needs)
+    (λ c. search needs) (search needs) (λ c. search needs) (λ c. search needs) (λ c. search needs)
+    (λ c. search needs) (search needs) returns)

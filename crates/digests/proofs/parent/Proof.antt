@@ -11,37 +11,13 @@ use borrow.Author.Needs.{needs}
 use Rattle.digests.proofs.parent.Statement.{statement}
 use Rattle.digests.proofs.parent.Tie as tie
 
-is-zero-requires : tie.Need-is-zero-requires
-is-zero-requires c κs = search needs
-
 returns : tie.Need-returns
 unfolding H parentForms
 returns c = rw (sym (c .before .is-zero .ensures) ∙ c .if1 .taken)
 
-is-zero-requires-2 : tie.Need-is-zero-requires-2
-is-zero-requires-2 c κs = search needs
-
 returns-2 : tie.Need-returns-2
 unfolding H parentForms
 returns-2 c = rw (sym (c .before .before .before .is-zero .ensures) ∙ c .before .before .if1 .left, sym (c .before .is-zero2 .ensures) ∙ c .if2 .taken)
-
-two-requires : tie.Need-two-requires
-two-requires c κs = search needs
-
-slice-aggregate-put : tie.Need-slice-aggregate-put
-slice-aggregate-put c = search needs
-
-slice-aggregate-put-2 : tie.Need-slice-aggregate-put-2
-slice-aggregate-put-2 c = search needs
-
-put-requires : tie.Need-put-requires
-put-requires c κs = search needs
-
-slice-aggregate-digest : tie.Need-slice-aggregate-digest
-slice-aggregate-digest c = search needs
-
-digest-requires : tie.Need-digest-requires
-digest-requires c κs = search needs
 
 returns-3 : tie.Need-returns-3
 unfolding H parentForms enc
@@ -61,14 +37,7 @@ pub parent-spec : {M : Type 1} → statement M
 parent-spec =
     tie.close
     (tie.spec
-    is-zero-requires
-    returns
-    is-zero-requires-2
-    returns-2
-    two-requires
-    slice-aggregate-put
-    slice-aggregate-put-2
-    put-requires
-    slice-aggregate-digest
-    digest-requires
+    (search needs) returns
+    (search needs) returns-2
+    (search needs) (λ c. search needs) (λ c. search needs) (search needs) (λ c. search needs) (search needs)
     returns-3)

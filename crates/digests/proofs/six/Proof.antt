@@ -9,30 +9,6 @@ use borrow.Author.Needs.{needs}
 use Rattle.digests.proofs.six.Statement.{statement}
 use Rattle.digests.proofs.six.Tie as tie
 
-four-requires : tie.Need-four-requires
-four-requires c κs = search needs
-
-two-requires : tie.Need-two-requires
-two-requires c κs = search needs
-
-slice-aggregate-put : tie.Need-slice-aggregate-put
-slice-aggregate-put c = search needs
-
-slice-aggregate-put-2 : tie.Need-slice-aggregate-put-2
-slice-aggregate-put-2 c = search needs
-
-put-requires : tie.Need-put-requires
-put-requires c κs = search needs
-
-slice-aggregate-put-3 : tie.Need-slice-aggregate-put-3
-slice-aggregate-put-3 c = search needs
-
-slice-aggregate-put-4 : tie.Need-slice-aggregate-put-4
-slice-aggregate-put-4 c = search needs
-
-put-requires-2 : tie.Need-put-requires-2
-put-requires-2 c κs = search needs
-
 returns : tie.Need-returns
 returns c =
     let g = c .before .before .before .before .before .before .before .before .before .before .good in
@@ -52,12 +28,5 @@ pub six-spec : {M : Type 1} → statement M
 six-spec =
     tie.close
     (tie.spec
-    four-requires
-    two-requires
-    slice-aggregate-put
-    slice-aggregate-put-2
-    put-requires
-    slice-aggregate-put-3
-    slice-aggregate-put-4
-    put-requires-2
-    returns)
+    (search needs) (search needs) (λ c. search needs) (λ c. search needs) (search needs) (λ c. search needs)
+    (λ c. search needs) (search needs) returns)

@@ -9,15 +9,6 @@ use borrow.Author.Needs.{needs}
 use Rattle.digests.proofs.u2.Statement.{statement}
 use Rattle.digests.proofs.u2.Tie as tie
 
-six-requires : tie.Need-six-requires
-six-requires c κs = search needs
-
-slice-aggregate-memorandum : tie.Need-slice-aggregate-memorandum
-slice-aggregate-memorandum c = search needs
-
-memorandum-requires : tie.Need-memorandum-requires
-memorandum-requires c κs = search needs
-
 returns : tie.Need-returns
 unfolding enc
 returns c =
@@ -29,4 +20,4 @@ returns c =
     λ i. record { bytes = e i; blocks = 4 }
 
 pub u2-spec : {M : Type 1} → statement M
-u2-spec = tie.close (tie.spec six-requires slice-aggregate-memorandum memorandum-requires returns)
+u2-spec = tie.close (tie.spec (search needs) (λ c. search needs) (search needs) returns)

@@ -6,9 +6,6 @@ use borrow.Author.Needs.{needs}
 use Rattle.list_kinds.proofs.find.Statement.{statement}
 use Rattle.list_kinds.proofs.find.Tie as tie
 
-is-blank-requires : tie.Need-is-blank-requires
-is-blank-requires c κs = search needs
-
 returns : tie.Need-returns
 unfolding findingOf
 returns c = (rw (eq-eqb _ _ (c .before .before .if1 .taken), sym (c .before .is-blank .ensures) ∙ c .if2 .taken) refl, refl)
@@ -22,4 +19,4 @@ unfolding findingOf
 returns-3 c = (rw (ne-eqb _ _ (c .if1 .left)) refl, refl)
 
 pub find-spec : {M : Type 1} → statement M
-find-spec = tie.close (tie.spec is-blank-requires returns returns-2 returns-3)
+find-spec = tie.close (tie.spec (search needs) returns returns-2 returns-3)

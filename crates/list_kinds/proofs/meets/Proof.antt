@@ -7,11 +7,8 @@ use Rattle.list_kinds.proofs.meets.Tie as tie
 returns : tie.Need-returns
 returns c = rw (eq-eqb _ _ (c .if1 .taken))
 
-in-gap-requires : tie.Need-in-gap-requires
-in-gap-requires c κs = search needs
-
 returns-2 : tie.Need-returns-2
 returns-2 c = rw (ne-eqb _ _ (c .before .if1 .left)) (c .in-gap .ensures)
 
 pub meets-spec : {M : Type 1} → statement M
-meets-spec = tie.close (tie.spec returns in-gap-requires returns-2)
+meets-spec = tie.close (tie.spec returns (search needs) returns-2)

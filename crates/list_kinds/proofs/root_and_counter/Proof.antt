@@ -10,27 +10,6 @@ use borrow.Author.Needs.{needs}
 use Rattle.list_kinds.proofs.root_and_counter.Statement.{statement}
 use Rattle.list_kinds.proofs.root_and_counter.Tie as tie
 
-spelled-requires : tie.Need-spelled-requires
-spelled-requires c κs = search needs
-
-slice-aggregate-put : tie.Need-slice-aggregate-put
-slice-aggregate-put c = search needs
-
-slice-aggregate-put-2 : tie.Need-slice-aggregate-put-2
-slice-aggregate-put-2 c = search needs
-
-put-requires : tie.Need-put-requires
-put-requires c κs = search needs
-
-slice-aggregate-put-3 : tie.Need-slice-aggregate-put-3
-slice-aggregate-put-3 c = search needs
-
-slice-aggregate-put-4 : tie.Need-slice-aggregate-put-4
-slice-aggregate-put-4 c = search needs
-
-put-requires-2 : tie.Need-put-requires-2
-put-requires-2 c κs = search needs
-
 returns : tie.Need-returns
 returns c =
     let s = c .before .before .before .before .before .before .before .before .before in
@@ -45,11 +24,5 @@ pub root-and-counter-spec : {M : Type 1} → statement M
 root-and-counter-spec =
     tie.close
     (tie.spec
-    spelled-requires
-    slice-aggregate-put
-    slice-aggregate-put-2
-    put-requires
-    slice-aggregate-put-3
-    slice-aggregate-put-4
-    put-requires-2
-    returns)
+    (search needs) (λ c. search needs) (λ c. search needs) (search needs) (λ c. search needs) (λ c. search needs)
+    (search needs) returns)

@@ -11,24 +11,6 @@ use borrow.Author.Needs.{needs}
 use Rattle.list_kinds.proofs.say_listed.Statement.{statement}
 use Rattle.list_kinds.proofs.say_listed.Tie as tie
 
-spelled-requires : tie.Need-spelled-requires
-spelled-requires c κs = search needs
-
-slice-aggregate-put : tie.Need-slice-aggregate-put
-slice-aggregate-put c = search needs
-
-slice-aggregate-put-2 : tie.Need-slice-aggregate-put-2
-slice-aggregate-put-2 c = search needs
-
-put-requires : tie.Need-put-requires
-put-requires c κs = search needs
-
-slice-aggregate-accept : tie.Need-slice-aggregate-accept
-slice-aggregate-accept c = search needs
-
-accept-requires : tie.Need-accept-requires
-accept-requires c κs = search needs
-
 returns : tie.Need-returns
 returns c =
     let a = c .before .before .before .before .before .before .before .args in
@@ -42,10 +24,4 @@ pub say-listed-spec : {M : Type 1} → statement M
 say-listed-spec =
     tie.close
     (tie.spec
-    spelled-requires
-    slice-aggregate-put
-    slice-aggregate-put-2
-    put-requires
-    slice-aggregate-accept
-    accept-requires
-    returns)
+    (search needs) (λ c. search needs) (λ c. search needs) (search needs) (λ c. search needs) (search needs) returns)

@@ -12,36 +12,6 @@ use borrow.Author.Needs.{needs}
 use Rattle.list_kinds.proofs.say_recorded.Statement.{statement}
 use Rattle.list_kinds.proofs.say_recorded.Tie as tie
 
-spelled-requires : tie.Need-spelled-requires
-spelled-requires c κs = search needs
-
-record-bytes-requires : tie.Need-record-bytes-requires
-record-bytes-requires c κs = search needs
-
-slice-aggregate-put : tie.Need-slice-aggregate-put
-slice-aggregate-put c = search needs
-
-slice-aggregate-put-2 : tie.Need-slice-aggregate-put-2
-slice-aggregate-put-2 c = search needs
-
-put-requires : tie.Need-put-requires
-put-requires c κs = search needs
-
-slice-aggregate-put-3 : tie.Need-slice-aggregate-put-3
-slice-aggregate-put-3 c = search needs
-
-slice-aggregate-put-4 : tie.Need-slice-aggregate-put-4
-slice-aggregate-put-4 c = search needs
-
-put-requires-2 : tie.Need-put-requires-2
-put-requires-2 c κs = search needs
-
-slice-aggregate-accept : tie.Need-slice-aggregate-accept
-slice-aggregate-accept c = search needs
-
-accept-requires : tie.Need-accept-requires
-accept-requires c κs = search needs
-
 returns : tie.Need-returns
 returns c =
     let a = c .before .before .before .before .before .before .before .before .before .before .before .before .args in
@@ -58,14 +28,5 @@ pub say-recorded-spec : {M : Type 1} → statement M
 say-recorded-spec =
     tie.close
     (tie.spec
-    spelled-requires
-    record-bytes-requires
-    slice-aggregate-put
-    slice-aggregate-put-2
-    put-requires
-    slice-aggregate-put-3
-    slice-aggregate-put-4
-    put-requires-2
-    slice-aggregate-accept
-    accept-requires
-    returns)
+    (search needs) (search needs) (λ c. search needs) (λ c. search needs) (search needs) (λ c. search needs)
+    (λ c. search needs) (search needs) (λ c. search needs) (search needs) returns)

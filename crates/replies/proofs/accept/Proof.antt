@@ -5,18 +5,6 @@ use borrow.Author.Needs.{needs}
 use Rattle.replies.proofs.accept.Statement.{statement}
 use Rattle.replies.proofs.accept.Tie as tie
 
-array-write-reply : tie.Need-array-write-reply
-array-write-reply c = search needs
-
-slice-aggregate-put : tie.Need-slice-aggregate-put
-slice-aggregate-put c = search needs
-
-put-requires : tie.Need-put-requires
-put-requires c κs = search needs
-
-add-t13 : tie.Need-add-t13
-add-t13 c = search needs
-
 returns : tie.Need-returns
 returns c =
     let a = c .before .before .before .before .args in
@@ -24,4 +12,6 @@ returns c =
 
 pub accept-spec : {M : Type 1} → statement M
 accept-spec =
-    tie.close (tie.spec array-write-reply slice-aggregate-put put-requires add-t13 returns)
+    tie.close
+    (tie.spec
+    (λ c. search needs) (λ c. search needs) (search needs) (λ c. search needs) returns)

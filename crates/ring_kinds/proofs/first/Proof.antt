@@ -1,64 +1,44 @@
 -- Each return is a row of the table, with the leaf and the memorandum as their callees worked them.
-use mathlib.Core.Path.{refl, _∙_}
-use borrow.Author.Tests.{not-true, not-false, eq-eqb, ne-eqb}
+use mathlib.Core.Path.{refl, ap, _∙_}
+use mathlib.Core.List.{[]}
+use Prim.Native.Nat.{ℕ}
+use borrow.Author.Tests.{eq-eqb, ne-eqb}
+use Rattle.sha256.specs.Hash.{sha256}
+use Rattle.paper.specs.Strings.{Dig, nought, memo, ei, digest}
 use Rattle.paper.specs.Requests as Q
-use Rattle.digests.proofs.Fit.{bytes-of, short}
-use Rattle.replies.proofs.Laws.{refused-by, answered}
-use Rattle.ring_kinds.proofs.Laws.{first-13, first-4, first-passed, first-ei}
+use Rattle.digests.proofs.Fit.{bytes-of}
+use Rattle.replies.proofs.Stages.{Met, begun, passes, refuses, issues}
 use borrow.Author.Needs.{needs}
 use Rattle.ring_kinds.proofs.first.Statement.{statement}
 use Rattle.ring_kinds.proofs.first.Tie as tie
 
-refuse-requires : tie.Need-refuse-requires
-refuse-requires c κs = search needs
+-- the first i checks are met
+abbrev At : (i : ℕ) → tie.Start → Type 0
+At i c = Met i (c .args .r) 7 (Q.first (c .args .a .0)) 0
+
+opened : (c : tie.Else1) → At 1 (c .before .before)
+opened c = passes (begun _ _ _) (c .if1 .left)
+
+named : (c : tie.Else2) → At 2 (c .before .before .before .before)
+named c = passes (opened (c .before .before)) (ne-eqb _ _ (c .if2 .left))
 
 returns : tie.Need-returns
-returns c =
-    let a = c .before .before .before .args in
-    c .refuse .ensures
-    ∙ refused-by (a .r) 7 (Q.first (a .a .0)) 13 0 _ (first-13 (a .r) (a .a .0) (not-true (a .r .opened) (c .before .if1 .taken))) refl
-
-refuse-requires-2 : tie.Need-refuse-requires-2
-refuse-requires-2 c κs = search needs
+returns c = c .refuse .ensures ∙ refuses (begun _ _ _) (c .before .if1 .taken)
 
 returns-2 : tie.Need-returns-2
-returns-2 c =
-    let a = c .before .before .before .before .before .args in
-    c .refuse2 .ensures
-    ∙ refused-by (a .r) 7 (Q.first (a .a .0)) 4 0 _
-    (first-4 (a .r) (a .a .0) (not-false (a .r .opened) (c .before .before .before .if1 .left)) (eq-eqb _ _ (c .before .if2 .taken))) refl
-
-leaf-requires : tie.Need-leaf-requires
-leaf-requires c κs = search needs
-
-ei-requires : tie.Need-ei-requires
-ei-requires c κs = search needs
-
-slice-aggregate-accept : tie.Need-slice-aggregate-accept
-slice-aggregate-accept c = search needs
-
-accept-requires : tie.Need-accept-requires
-accept-requires c κs = search needs
+returns-2 c = c .refuse2 .ensures ∙ refuses (opened (c .before .before .before)) (eq-eqb _ _ (c .before .if2 .taken))
 
 returns-3 : tie.Need-returns-3
 returns-3 c =
-    let a = c .before .before .before .before .before .before .before .before .before .before .before .args in
-    let e = first-ei (a .a .0) (a .r .secret) _ _ (c .before .before .before .before .before .leaf .ensures) (c .before .before .before .ei .ensures) in
-    c .accept .ensures
-    ∙ answered (a .r) 7 (Q.first (a .a .0)) 0x87 3 _ _
-    (first-passed (a .r) (a .a .0) (not-false (a .r .opened) (c .before .before .before .before .before .before .before .before .before .if1 .left)) (ne-eqb _ _ (c .before .before .before .before .before .before .before .if2 .left)))
-    refl (bytes-of _ _ e) refl (short _ _ e)
+    let l = c .before .before .before .before .before in
+    let k = l .before .before .before .before .before .before .args .r .secret in
+    let e = ap (λ (x : Dig). digest sha256 (memo (ei nought x) k)) (bytes-of (l .leaf .ensures)) in
+    c .accept .ensures ∙ issues _ (named (l .before .before)) (bytes-of (c .before .before .before .ei .ensures) ∙ e) refl refl
 
 pub first-spec : {M : Type 1} → statement M
 first-spec =
     tie.close
     (tie.spec
-    refuse-requires
-    returns
-    refuse-requires-2
-    returns-2
-    leaf-requires
-    ei-requires
-    slice-aggregate-accept
-    accept-requires
-    returns-3)
+    (search needs) returns
+    (search needs) returns-2
+    (search needs) (search needs) (λ c. search needs) (search needs) returns-3)

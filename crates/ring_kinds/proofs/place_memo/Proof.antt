@@ -1,67 +1,67 @@
 -- The two orders are told from the leaves as they were worked, and each return is one of the three ways they can go.
-use Rattle.digests.proofs.Fit.{fit}
-use Rattle.ring_kinds.proofs.Laws.{order1-is, order2-is, found-first, found-second, found-none}
+use mathlib.Core.Path.{_≡_, sym, ap, _∙_}
+use mathlib.Core.Bool.{Bool}
+use Rattle.seqs.specs.Bytes.{same}
+use Rattle.sha256.specs.Hash.{sha256}
+use Rattle.paper.specs.Strings.{Dig, nought, Str, digest, memo, u2}
+use Rattle.digests.proofs.Fit.{bytes-of}
+use Rattle.ring_kinds.proofs.Laws.{order1, order2, found-first, found-second, found-none}
 use borrow.Author.Needs.{needs}
 use Rattle.ring_kinds.proofs.place_memo.Statement.{statement}
 use Rattle.ring_kinds.proofs.place_memo.Tie as tie
 
-leaf-requires : tie.Need-leaf-requires
-leaf-requires c κs = search needs
+abbrev one : tie.Start → Str
+one c = let a = c .args in order1 (a .k) (a .a .0) (a .an .0) (a .bn .0) (a .w) (a .y) (a .yn)
 
-leaf-requires-2 : tie.Need-leaf-requires-2
-leaf-requires-2 c κs = search needs
+abbrev two : tie.Start → Str
+two c = let a = c .args in order2 (a .k) (a .a .0) (a .an .0) (a .bn .0) (a .w) (a .y) (a .yn)
 
-leaf-requires-3 : tie.Need-leaf-requires-3
-leaf-requires-3 c κs = search needs
+-- what the comparison with each said, its leaves worked
+abbrev Said : (tie.Start → Str) → tie.After-leaf3 → Bool → Type 0
+Said s l b = same (digest sha256 (s (l .before .before .before))) (l .before .before .before .args .m) ≡ b
 
-u2-requires : tie.Need-u2-requires
-u2-requires c κs = search needs
+first : (c : tie.After-same-digest) → Said one (c .before .before .before .before .before .before) (c .same-digest .result)
+first c =
+    let l = c .before .before .before .before .before .before in
+    let a = l .before .before .before .args in
+    let x1 = bytes-of (l .before .before .leaf .ensures) in
+    let x1′ = bytes-of (l .before .leaf2 .ensures) in
+    let x2 = bytes-of (l .leaf3 .ensures) in
+    sym
+    (c .same-digest .ensures
+    ∙ ap (λ (d : Dig). same d (a .m))
+    (bytes-of (c .before .before .u2 .ensures) ∙ (λ i. digest sha256 (memo (u2 (x1 i) (x2 i) (a .y) (x1′ i) nought (a .yn)) (a .k)))))
 
-same-digest-requires : tie.Need-same-digest-requires
-same-digest-requires c κs = search needs
+second : (c : tie.After-same-digest2)
+    → Said two (c .before .before .before .before .before .before .before .before .before .before) (c .same-digest2 .result)
+second c =
+    let l = c .before .before .before .before .before .before .before .before .before .before in
+    let a = l .before .before .before .args in
+    let x1 = bytes-of (l .before .before .leaf .ensures) in
+    let x1′ = bytes-of (l .before .leaf2 .ensures) in
+    let x2 = bytes-of (l .leaf3 .ensures) in
+    sym
+    (c .same-digest2 .ensures
+    ∙ ap (λ (d : Dig). same d (a .m))
+    (bytes-of (c .before .before .u22 .ensures) ∙ (λ i. digest sha256 (memo (u2 (x2 i) (x1 i) (a .y) nought (x1′ i) (a .yn)) (a .k)))))
 
 returns : tie.Need-returns
-returns c =
-    let a = c .before .before .before .before .before .before .before .before .before .before .args in
-    let first = order1-is (a .k) (a .a .0) (a .an .0) (a .bn .0) (a .w) (a .y) (a .yn) _ _ _ _ (c .before .before .before .before .before .before .before .before .before .leaf .ensures) (c .before .before .before .before .before .before .before .before .leaf2 .ensures) (c .before .before .before .before .before .before .before .leaf3 .ensures) (c .before .before .before .u2 .ensures) in
-    found-first (a .k) (a .a .0) (a .an .0) (a .bn .0) (a .w) (a .y) (a .yn) (a .m)
-    (fit _ _ _ _ _ first (c .before .same-digest .ensures) (c .if1 .taken))
-
-u2-requires-2 : tie.Need-u2-requires-2
-u2-requires-2 c κs = search needs
-
-same-digest-requires-2 : tie.Need-same-digest-requires-2
-same-digest-requires-2 c κs = search needs
+returns c = found-first _ _ _ _ _ _ _ _ (first (c .before) ∙ c .if1 .taken)
 
 returns-2 : tie.Need-returns-2
 returns-2 c =
-    let a = c .before .before .before .before .before .before .before .before .before .before .before .before .before .before .args in
-    let first = order1-is (a .k) (a .a .0) (a .an .0) (a .bn .0) (a .w) (a .y) (a .yn) _ _ _ _ (c .before .before .before .before .before .before .before .before .before .before .before .before .before .leaf .ensures) (c .before .before .before .before .before .before .before .before .before .before .before .before .leaf2 .ensures) (c .before .before .before .before .before .before .before .before .before .before .before .leaf3 .ensures) (c .before .before .before .before .before .before .before .u2 .ensures) in
-    let second = order2-is (a .k) (a .a .0) (a .an .0) (a .bn .0) (a .w) (a .y) (a .yn) _ _ _ _ (c .before .before .before .before .before .before .before .before .before .before .before .before .before .leaf .ensures) (c .before .before .before .before .before .before .before .before .before .before .before .before .leaf2 .ensures) (c .before .before .before .before .before .before .before .before .before .before .before .leaf3 .ensures) (c .before .before .before .u22 .ensures) in
-    found-second (a .k) (a .a .0) (a .an .0) (a .bn .0) (a .w) (a .y) (a .yn) (a .m)
-    (fit _ _ _ _ _ first (c .before .before .before .before .before .same-digest .ensures) (c .before .before .before .before .if1 .left))
-    (fit _ _ _ _ _ second (c .before .same-digest2 .ensures) (c .if2 .taken))
+    let b = c .before .before .before .before in
+    found-second _ _ _ _ _ _ _ _ (first (b .before) ∙ b .if1 .left) (second (c .before) ∙ c .if2 .taken)
 
 returns-3 : tie.Need-returns-3
 returns-3 c =
-    let a = c .before .before .before .before .before .before .before .before .before .before .before .before .before .before .args in
-    let first = order1-is (a .k) (a .a .0) (a .an .0) (a .bn .0) (a .w) (a .y) (a .yn) _ _ _ _ (c .before .before .before .before .before .before .before .before .before .before .before .before .before .leaf .ensures) (c .before .before .before .before .before .before .before .before .before .before .before .before .leaf2 .ensures) (c .before .before .before .before .before .before .before .before .before .before .before .leaf3 .ensures) (c .before .before .before .before .before .before .before .u2 .ensures) in
-    let second = order2-is (a .k) (a .a .0) (a .an .0) (a .bn .0) (a .w) (a .y) (a .yn) _ _ _ _ (c .before .before .before .before .before .before .before .before .before .before .before .before .before .leaf .ensures) (c .before .before .before .before .before .before .before .before .before .before .before .before .leaf2 .ensures) (c .before .before .before .before .before .before .before .before .before .before .before .leaf3 .ensures) (c .before .before .before .u22 .ensures) in
-    found-none (a .k) (a .a .0) (a .an .0) (a .bn .0) (a .w) (a .y) (a .yn) (a .m)
-    (fit _ _ _ _ _ first (c .before .before .before .before .before .same-digest .ensures) (c .before .before .before .before .if1 .left))
-    (fit _ _ _ _ _ second (c .before .same-digest2 .ensures) (c .if2 .left))
+    let b = c .before .before .before .before in
+    found-none _ _ _ _ _ _ _ _ (first (b .before) ∙ b .if1 .left) (second (c .before) ∙ c .if2 .left)
 
 pub place-memo-spec : {M : Type 1} → statement M
 place-memo-spec =
     tie.close
     (tie.spec
-    leaf-requires
-    leaf-requires-2
-    leaf-requires-3
-    u2-requires
-    same-digest-requires
-    returns
-    u2-requires-2
-    same-digest-requires-2
-    returns-2
+    (search needs) (search needs) (search needs) (search needs) (search needs) returns
+    (search needs) (search needs) returns-2
     returns-3)

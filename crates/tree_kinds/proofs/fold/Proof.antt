@@ -8,7 +8,8 @@ use lib.Seq.{getD-take}
 use Rattle.sha256.specs.Hash.{sha256}
 use Rattle.paper.specs.Strings.{cost, up, upForms, foldUp, foldForms}
 use Rattle.digests.specs.Worked.{worked}
-use Rattle.tree_kinds.proofs.PathLaws.{level-cost, count-of, up-next, forms-next, up-end, forms-end}
+use Rattle.digests.proofs.Fit.{blocks-of}
+use Rattle.tree_kinds.proofs.PathLaws.{level-cost, up-next, forms-next, up-end, forms-end}
 use borrow.Author.Needs.{needs}
 use Rattle.tree_kinds.proofs.fold.Statement.{statement}
 use Rattle.tree_kinds.proofs.fold.Tie as tie
@@ -25,28 +26,13 @@ abbrev μ-loop : tie.MeasureT-loop
 loop-holds : tie.Need-loop-holds Inv-loop μ-loop
 loop-holds c = (search needs, search needs, refl, omega arith)
 
-mul-s : tie.Need-mul-s Inv-loop μ-loop
-mul-s c = search needs
-
-array-copy-out-s : tie.Need-array-copy-out-s Inv-loop μ-loop
-array-copy-out-s c = search needs
-
-level-requires : tie.Need-level-requires Inv-loop μ-loop
-level-requires c κs = search needs
-
 add-b : tie.Need-add-b Inv-loop μ-loop
 add-b c =
     let a = c .before .before .before .before .before .before .args in
     let k = c .before .before .before .before .before .loop in
     let s = getD (a .t2) (k .i) [] in
     let e : c .before .before .level .result ≡ worked (up sha256 (k .u) s (k .bits % 2)) (upForms sha256 (k .u) s (k .bits % 2)) = c .before .before .level .ensures in
-    omega (arith, count-of _ _ e, level-cost (k .u) s (k .bits % 2))
-
-add-i : tie.Need-add-i Inv-loop μ-loop
-add-i c = search needs
-
-loop-less : tie.Need-loop-less Inv-loop μ-loop
-loop-less c = search needs
+    omega (arith, blocks-of e, level-cost (k .u) s (k .bits % 2))
 
 loop-again : tie.Need-loop-again Inv-loop μ-loop
 loop-again c =
@@ -62,7 +48,7 @@ loop-again c =
     let n : length l ≡ a .n = simp length-take (omega arith) in
     let g : getD l (k .i) [] ≡ s = getD-take (a .n) (a .t2) (k .i) [] h in (
       omega arith,
-      omega (arith, count-of _ _ e, level-cost (k .u) s (k .bits % 2)),
+      omega (arith, blocks-of e, level-cost (k .u) s (k .bits % 2)),
       k .inv .2 ∙ up-next (k .u) (k .bits) l (k .i) s g (omega arith) d e,
       forms-next (k .u) (k .bits) l (k .i) s g (omega arith) d e (k .b) _ (k .inv .3),
     )
@@ -84,11 +70,6 @@ fold-spec =
     Inv-loop
     μ-loop
     loop-holds
-    mul-s
-    array-copy-out-s
-    level-requires
-    add-b
-    add-i
-    loop-less
-    loop-again
+    (λ c. search needs) (λ c. search needs) (search needs) add-b
+    (λ c. search needs) (λ c. search needs) loop-again
     returns)

@@ -5,12 +5,6 @@ use borrow.Author.Needs.{needs}
 use Rattle.tree_kinds.proofs.level.Statement.{statement}
 use Rattle.tree_kinds.proofs.level.Tie as tie
 
-parent-requires : tie.Need-parent-requires
-parent-requires c κs = search needs
-
-parent-requires-2 : tie.Need-parent-requires-2
-parent-requires-2 c κs = search needs
-
 returns : tie.Need-returns
 returns c = c .parent .ensures ∙ rw (eq-eqb _ _ (c .before .if1 .taken))
 
@@ -18,4 +12,4 @@ returns-2 : tie.Need-returns-2
 returns-2 c = c .parent2 .ensures ∙ rw (ne-eqb _ _ (c .before .if1 .left))
 
 pub level-spec : {M : Type 1} → statement M
-level-spec = tie.close (tie.spec parent-requires parent-requires-2 returns returns-2)
+level-spec = tie.close (tie.spec (search needs) (search needs) returns returns-2)

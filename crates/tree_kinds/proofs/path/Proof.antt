@@ -9,20 +9,11 @@ use borrow.Author.Needs.{needs}
 use Rattle.tree_kinds.proofs.path.Statement.{statement}
 use Rattle.tree_kinds.proofs.path.Tie as tie
 
-path-of-requires : tie.Need-path-of-requires
-path-of-requires c κs = search needs
-
 returns : tie.Need-returns
 returns c =
     let a = c .before .before .args in
     c .path-of .ensures
     ∙ ap (λ (l : List Dig). outcome (a .r) 1 (Q.path (a .x) (a .xn) (a .sides) l)) (take-more (a .siblings) (a .n) (c .before .before .good .1 .1 .1 .1 .1 .0 .1 .0 .1) (c .before .if1 .taken))
 
-path-of-requires-2 : tie.Need-path-of-requires-2
-path-of-requires-2 c κs = search needs
-
-returns-2 : tie.Need-returns-2
-returns-2 c = search needs
-
 pub path-spec : {M : Type 1} → statement M
-path-spec = tie.close (tie.spec path-of-requires returns path-of-requires-2 returns-2)
+path-spec = tie.close (tie.spec (search needs) returns (search needs) (λ c. search needs))

@@ -9,33 +9,6 @@ use borrow.Author.Needs.{needs}
 use Rattle.tree_kinds.proofs.three.Statement.{statement}
 use Rattle.tree_kinds.proofs.three.Tie as tie
 
-slice-aggregate-put : tie.Need-slice-aggregate-put
-slice-aggregate-put c = search needs
-
-slice-aggregate-put-2 : tie.Need-slice-aggregate-put-2
-slice-aggregate-put-2 c = search needs
-
-put-requires : tie.Need-put-requires
-put-requires c κs = search needs
-
-slice-aggregate-put-3 : tie.Need-slice-aggregate-put-3
-slice-aggregate-put-3 c = search needs
-
-slice-aggregate-put-4 : tie.Need-slice-aggregate-put-4
-slice-aggregate-put-4 c = search needs
-
-put-requires-2 : tie.Need-put-requires-2
-put-requires-2 c κs = search needs
-
-slice-aggregate-put-5 : tie.Need-slice-aggregate-put-5
-slice-aggregate-put-5 c = search needs
-
-slice-aggregate-put-6 : tie.Need-slice-aggregate-put-6
-slice-aggregate-put-6 c = search needs
-
-put-requires-3 : tie.Need-put-requires-3
-put-requires-3 c κs = search needs
-
 returns : tie.Need-returns
 returns c =
     let s = c .before .before .before .before .before .before .before .before .before .before .before .before in
@@ -51,13 +24,5 @@ pub three-spec : {M : Type 1} → statement M
 three-spec =
     tie.close
     (tie.spec
-    slice-aggregate-put
-    slice-aggregate-put-2
-    put-requires
-    slice-aggregate-put-3
-    slice-aggregate-put-4
-    put-requires-2
-    slice-aggregate-put-5
-    slice-aggregate-put-6
-    put-requires-3
-    returns)
+    (λ c. search needs) (λ c. search needs) (search needs) (λ c. search needs) (λ c. search needs) (search needs)
+    (λ c. search needs) (λ c. search needs) (search needs) returns)
