@@ -156,6 +156,26 @@ pub fn is_blank(r: Record) -> bool
     v.0 == 0
 }
 
+// A record's four numbers, one behind the other.
+pub fn record_bytes(r: Record) -> [u8; 32]
+    ensures { λ b. ⌜ b ≡ S.spread (S.nums (S.numbers r)) ⌝ }
+{
+    let v = r.revision;
+    let m = r.mass;
+    let o = r.offset;
+    let g = r.rigging;
+    let mut s = [0u8; 32];
+    let n1 = fields::spelled(v.0);
+    let n2 = fields::spelled(m.0);
+    let n3 = fields::spelled(o.0);
+    let n4 = fields::spelled(g.0);
+    fields::put(&mut s, 0, &n1);
+    fields::put(&mut s, 8, &n2);
+    fields::put(&mut s, 16, &n3);
+    fields::put(&mut s, 24, &n4);
+    s
+}
+
 pub fn record_hash(r: Record) -> Digest
     ensures { λ d. ⌜ d ≡ worked (S.recordHash sha256 r) (S.recordForms r) ⌝ }
 {
@@ -165,19 +185,9 @@ pub fn record_hash(r: Record) -> Digest
             blocks: 0,
         };
     }
-    let v = r.revision;
-    let m = r.mass;
-    let o = r.offset;
-    let g = r.rigging;
     let mut s = [3u8; 33];
-    let n1 = fields::spelled(v.0);
-    let n2 = fields::spelled(m.0);
-    let n3 = fields::spelled(o.0);
-    let n4 = fields::spelled(g.0);
-    fields::put(&mut s, 1, &n1);
-    fields::put(&mut s, 9, &n2);
-    fields::put(&mut s, 17, &n3);
-    fields::put(&mut s, 25, &n4);
+    let n = record_bytes(r);
+    fields::put(&mut s, 1, &n);
     Digest {
         bytes: sha256::digest(&s),
         blocks: 1,

@@ -1,7 +1,7 @@
 -- The memoranda of a changed record and of a leaf, from what they are made of; and the bytes of findings.
-use mathlib.Core.Path.{_≡_, refl, ap, ap₂, _∙_}
+use mathlib.Core.Path.{_≡_, refl, ap₂, _∙_}
 use mathlib.Core.Bool.{Bool, true, false, not}
-use mathlib.Core.List.{List, [], _∷_, _++_, append-assoc, append-nil}
+use mathlib.Core.List.{List, [], _∷_, _++_}
 use Prim.Native.Nat.{ℕ, _+_, _≤_}
 use native.Mathlib.Omega.{arith}
 use lib.ListN.{length, length-append}
@@ -91,23 +91,9 @@ module _ (k : Dig) (A A′ : ℕ) (r : Record) (y : Dig) where
       → Made (comparing 8 (leafForms sha256 A A′ r) asked (same (digest sha256 asked) m)) b 0 (u .blocks)
   leaf-made m e h k = made (leafForms sha256 A A′ r) asked m e h k
 
--- ── answers ──
+-- ── findings ──
 
--- a root and a counter fit a reply
-pub short-change : (l : List ℕ) (y : Dig) (c : ℕ) → l ≡ y ++ be64 c → length y ≡ 32 → length l ≤ 96
-short-change l y c e h = rw e (simp length-append (omega (arith, h, be64-length c)))
-
--- numbers put one behind the other, and behind a tag
-pub four-numbers : (a b c d : List ℕ) → (((([] ++ a) ++ b) ++ c) ++ d) ++ [] ≡ a ++ (b ++ (c ++ (d ++ [])))
-four-numbers a b c d = simp append-assoc
-
-pub behind2 : (t : ℕ) (a b : List ℕ) → (((t ∷ []) ++ a) ++ b) ++ [] ≡ t ∷ (a ++ (b ++ []))
-behind2 t a b = ap (λ (l : List ℕ). t ∷ l) (append-assoc a b [])
-
-pub behind-whole : (t : ℕ) (a b : List ℕ) → (((t ∷ []) ++ a) ++ b) ++ [] ≡ t ∷ (a ++ b)
-behind-whole t a b = ap (λ (l : List ℕ). t ∷ l) (append-nil (a ++ b))
-
-pub record-length : (r : Record) → length (spread (nums (numbers r))) ≡ 32
+record-length : (r : Record) → length (spread (nums (numbers r))) ≡ 32
 record-length r =
     simp length-append
     (omega (arith, be64-length (r .revision .0), be64-length (r .mass .0), be64-length (r .offset .0), be64-length (r .rigging .0)))

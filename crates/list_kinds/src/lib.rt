@@ -291,32 +291,12 @@ fn find(q: Item, a: Item, b: Item, rec: Record, blocks: u64) -> AskReply
     }
 }
 
-// A record's four numbers.
-fn record_bytes(rec: Record) -> [u8; 32]
-    ensures { λ r. ⌜ r ≡ S.spread (S.nums (S.numbers rec)) ⌝ }
-{
-    let v = rec.revision;
-    let m = rec.mass;
-    let o = rec.offset;
-    let g = rec.rigging;
-    let mut s = [0u8; 32];
-    let n1 = fields::spelled(v.0);
-    let n2 = fields::spelled(m.0);
-    let n3 = fields::spelled(o.0);
-    let n4 = fields::spelled(g.0);
-    fields::put(&mut s, 0, &n1);
-    fields::put(&mut s, 8, &n2);
-    fields::put(&mut s, 16, &n3);
-    fields::put(&mut s, 24, &n4);
-    s
-}
-
 fn say_recorded(r: Registers, a: Item, rec: Record, blocks: u64) -> Outcome
     ensures { λ o. ⌜ o ≡ acceptance r 0x8e (findingBytes (Finding.Recorded a rec)) blocks ⌝ }
 {
     let mut s = [1u8; 41];
     let na = fields::spelled(a.0);
-    let nr = record_bytes(rec);
+    let nr = digests::record_bytes(rec);
     fields::put(&mut s, 1, &na);
     fields::put(&mut s, 9, &nr);
     replies::accept(r, 0x8e, &s, blocks)

@@ -6,7 +6,7 @@ use replies::Outcome;
 ghost use mathlib.Core.Path.{_≡_};
 ghost use mathlib.Core.List.{_++_};
 ghost use Prim.Native.Nat.{_+_, _≤_};
-ghost use lib.ListN.{length, take};
+ghost use lib.ListN.{take};
 ghost use Rattle.sha256.specs.Hash.{sha256};
 ghost use Rattle.paper.specs.Strings as S;
 ghost use Rattle.paper.specs.Requests as Q;
@@ -48,7 +48,7 @@ fn fold(x: [u8; 32], siblings: [[u8; 32]; 64], n: usize, sides: u64) -> Digest
 }
 
 fn three(a: [u8; 32], b: [u8; 32], c: [u8; 32]) -> [u8; 96]
-    ensures { λ r. ⌜ (r ≡ (a ++ b) ++ c) × (length r ≡ 96) ⌝ }
+    ensures { λ r. ⌜ r ≡ (a ++ b) ++ c ⌝ }
 {
     let mut s = [0u8; 96];
     fields::put(&mut s, 0, &a);

@@ -18,11 +18,15 @@ returns-3 c = simp (le-ltb _ _ (c .before .before .if1 .left), eq-eqb _ _ (c .if
 
 returns-4 : tie.Need-returns-4
 unfolding inGap
-returns-4 c = simp (le-ltb _ _ (c .before .before .before .before .before .if1 .left), ne-eqb _ _ (c .before .before .before .if3 .left), lt-ltb _ _ (c .if4 .taken))
+returns-4 c =
+    let b = c .before .before .before in
+    simp (le-ltb _ _ (b .before .before .if1 .left), ne-eqb _ _ (b .if3 .left), lt-ltb _ _ (c .if4 .taken))
 
 returns-5 : tie.Need-returns-5
 unfolding inGap
-returns-5 c = simp (le-ltb _ _ (c .before .before .before .before .before .before .before .if1 .left), ne-eqb _ _ (c .before .before .before .before .before .if3 .left), le-ltb _ _ (c .before .before .if4 .left))
+returns-5 c =
+    let b = c .before .before .before .before .before in
+    simp (le-ltb _ _ (b .before .before .if1 .left), ne-eqb _ _ (b .if3 .left), le-ltb _ _ (c .before .before .if4 .left))
 
 pub in-gap-spec : {M : Type 1} → statement M
 in-gap-spec = tie.close (tie.spec returns returns-2 returns-3 returns-4 returns-5)

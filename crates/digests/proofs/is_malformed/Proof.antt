@@ -1,25 +1,29 @@
 -- A record without a revision is malformed by the first of its other numbers that is not 0.
-use mathlib.Core.Path.{sym, _∙_}
+use mathlib.Core.Path.{_≡_, sym, _∙_}
+use mathlib.Core.Bool.{true}
 use borrow.Author.Tests.{eq-eqb, ne-eqb}
 use Rattle.seqs.specs.Choose.{both-right}
-use Rattle.paper.specs.Strings.{malformed}
+use Rattle.paper.specs.Strings.{blank, malformed}
 use borrow.Author.Needs.{needs}
 use Rattle.digests.proofs.is_malformed.Statement.{statement}
 use Rattle.digests.proofs.is_malformed.Tie as tie
 
+empty : (c : tie.Then1) → blank (c .before .before .args .r) ≡ true
+empty c = sym (c .before .is-blank .ensures) ∙ c .if1 .taken
+
 returns : tie.Need-returns
 unfolding malformed
-returns c = simp (sym (c .before .before .before .before .before .before .is-blank .ensures) ∙ c .before .before .before .before .before .if1 .taken, ne-eqb _ _ (c .if2 .taken))
+returns c = simp (empty (c .before .before .before .before .before), ne-eqb _ _ (c .if2 .taken))
 
 returns-2 : tie.Need-returns-2
 unfolding malformed
-returns-2 c =
-    simp (sym (c .before .before .before .before .before .before .before .before .is-blank .ensures) ∙ c .before .before .before .before .before .before .before .if1 .taken, eq-eqb _ _ (c .before .before .if2 .left), ne-eqb _ _ (c .if3 .taken))
+returns-2 c = simp (empty (c .before .before .before .before .before .before .before), eq-eqb _ _ (c .before .before .if2 .left), ne-eqb _ _ (c .if3 .taken))
 
 returns-3 : tie.Need-returns-3
 unfolding malformed
 returns-3 c =
-    simp (sym (c .before .before .before .before .before .before .before .before .before .is-blank .ensures) ∙ c .before .before .before .before .before .before .before .before .if1 .taken, eq-eqb _ _ (c .before .before .before .if2 .left), eq-eqb _ _ (c .before .if3 .left), both-right)
+    let b = c .before .before .before in
+    simp (empty (b .before .before .before .before .before), eq-eqb _ _ (b .if2 .left), eq-eqb _ _ (c .before .if3 .left), both-right)
 
 returns-4 : tie.Need-returns-4
 unfolding malformed

@@ -13,14 +13,19 @@ use Rattle.digests.proofs.memorandum.Tie as tie
 
 returns : tie.Need-returns
 returns c =
-    let a = c .before .before .before .before .before .before .before .before .before .before .before .args in
+    let p2 = c .before .before .before .before in
+    let p1 = p2 .before .before .before .before in
+    let s = p1 .before .before .before in
+    let a = s .args in
     let t = a .says .now in
     let n = length t in
     let d : List ℕ = a .tag ∷ replicate 224 0 in
     let r0 : Front d d (a .tag ∷ []) 1 = record { here = refl; long = refl } in
-    let r1 = front-next (c .before .before .before .before .before .before .before .before .put .last .0) t n (1 + n) r0 (c .before .before .before .before .before .before .before .before .put .ensures) refl refl (omega arith) in
-    let r2 = front-next (c .before .before .before .before .put2 .last .0) (a .t3) 32 (n + 33) r1 (c .before .before .before .before .put2 .ensures) (c .before .before .before .before .before .before .before .before .before .before .before .good .1 .1 .0 .1 .0 .1) (omega arith) (omega arith) in
-    c .digest .ensures ∙ ap sha256 (ap (take (n + 33 - 0)) (r2 .here) ∙ take-at (a .tag ∷ (t ++ a .t3)) _ (n + 33 - 0) (r2 .long ∙ omega arith))
+    let r1 = front-next _ t n (1 + n) r0 (p1 .put .ensures) refl refl (omega arith) in
+    let r2 = front-next _ _ 32 (n + 33) r1 (p2 .put2 .ensures) (s .good .1 .1 .0 .1 .0 .1) (omega arith) (omega arith) in
+    c .digest .ensures
+    ∙ ap sha256
+    (ap (take (n + 33 - 0)) (r2 .here) ∙ take-at (a .tag ∷ (t ++ a .t3)) _ (n + 33 - 0) (r2 .long ∙ omega arith))
 
 pub memorandum-spec : {M : Type 1} → statement M
 memorandum-spec =

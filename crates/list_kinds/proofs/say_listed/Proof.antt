@@ -3,8 +3,7 @@ use mathlib.Core.Path.{refl, ap, _∙_}
 use mathlib.Core.List.{List, [], _∷_, _++_}
 use Prim.Native.Nat.{ℕ}
 use native.Mathlib.Omega.{arith}
-use lib.ListN.{length, replicate}
-use Rattle.seqs.specs.Bytes.{be64-length}
+use lib.ListN.{replicate}
 use Rattle.seqs.specs.Over.{Front, front-next}
 use Rattle.replies.specs.Outcomes.{acceptance}
 use borrow.Author.Needs.{needs}
@@ -13,12 +12,14 @@ use Rattle.list_kinds.proofs.say_listed.Tie as tie
 
 returns : tie.Need-returns
 returns c =
-    let a = c .before .before .before .before .before .before .before .args in
-    let n = c .before .before .before .before .before .before .spelled in
+    let p = c .before .before .before in
+    let n = p .before .before .before in
+    let a = n .before .args in
     let d : List ℕ = replicate 9 2 in
     let r0 : Front d d (2 ∷ []) 1 = record { here = refl; long = refl } in
-    let r1 = front-next (c .before .before .before .put .last .0) (n .result) 8 9 r0 (c .before .before .before .put .ensures) (ap length (n .ensures) ∙ be64-length _) refl (omega arith) in
-    c .accept .ensures ∙ ap (λ (l : List ℕ). acceptance (a .r) 0x8e l (a .blocks)) (r1 .here ∙ (λ i. 2 ∷ (n .ensures i ++ [])))
+    let r1 = front-next _ _ 8 9 r0 (p .put .ensures) (omega (arith, n .spelled .ok)) refl (omega arith) in
+    c .accept .ensures
+    ∙ ap (λ (l : List ℕ). acceptance (a .r) 0x8e l (a .blocks)) (r1 .here ∙ (λ i. 2 ∷ (n .spelled .ensures i ++ [])))
 
 pub say-listed-spec : {M : Type 1} → statement M
 say-listed-spec =

@@ -1,6 +1,5 @@
 -- Each return is a row of the table, with the leaf and the memorandum as their callees worked them.
 use mathlib.Core.Path.{refl, ap, _∙_}
-use mathlib.Core.List.{[]}
 use Prim.Native.Nat.{ℕ}
 use borrow.Author.Tests.{eq-eqb, ne-eqb}
 use Rattle.sha256.specs.Hash.{sha256}

@@ -26,13 +26,17 @@ abbrev μ-loop : tie.MeasureT-loop
 loop-holds : tie.Need-loop-holds Inv-loop μ-loop
 loop-holds c = (search needs, search needs, refl, omega arith)
 
+-- the level that was worked, one up from the turn's beginning
+rise : (c : tie.After-level Inv-loop μ-loop)
+    → let k = c .before .before .before .loop in
+    let s = getD (c .before .before .before .before .args .t2) (k .i) [] in
+    c .level .result ≡ worked (up sha256 (k .u) s (k .bits % 2)) (upForms sha256 (k .u) s (k .bits % 2))
+rise c = c .level .ensures
+
 add-b : tie.Need-add-b Inv-loop μ-loop
 add-b c =
-    let a = c .before .before .before .before .before .before .args in
     let k = c .before .before .before .before .before .loop in
-    let s = getD (a .t2) (k .i) [] in
-    let e : c .before .before .level .result ≡ worked (up sha256 (k .u) s (k .bits % 2)) (upForms sha256 (k .u) s (k .bits % 2)) = c .before .before .level .ensures in
-    omega (arith, blocks-of e, level-cost (k .u) s (k .bits % 2))
+    omega (arith, blocks-of (rise (c .before .before)), level-cost (k .u) (getD (c .before .before .before .before .before .before .args .t2) (k .i) []) (k .bits % 2))
 
 loop-again : tie.Need-loop-again Inv-loop μ-loop
 loop-again c =
@@ -41,7 +45,7 @@ loop-again c =
     let k = c .before .before .before .before .before .loop in
     let s = getD (a .t2) (k .i) [] in
     let d = c .before .before .level .result in
-    let e : d ≡ worked (up sha256 (k .u) s (k .bits % 2)) (upForms sha256 (k .u) s (k .bits % 2)) = c .before .before .level .ensures in
+    let e = rise (c .before .before) in
     let h : suc (k .i) ≤ a .n = omega arith in
     let t : length (a .t2) ≡ 64 = st .good .1 .0 .1 .0 .1 in
     let l = take (a .n) (a .t2) in
@@ -60,7 +64,8 @@ returns c =
     let l : List (List ℕ) = take (a .n) (a .t2) in
     let n : length l ≤ a .n = simp length-take (omega arith) in
     let e1 : foldUp sha256 (a .x) (a .sides) l ≡ k .u = k .inv .2 ∙ up-end (k .u) (k .bits) l (k .i) (omega arith) in
-    let e2 : cost (foldForms sha256 (a .x) (a .sides) l) ≡ k .b = k .inv .3 ∙ omega (arith, forms-end (k .u) (k .bits) l (k .i) (omega arith)) in
+    let e2 : cost (foldForms sha256 (a .x) (a .sides) l) ≡ k .b =
+    k .inv .3 ∙ omega (arith, forms-end (k .u) (k .bits) l (k .i) (omega arith)) in
     (rw (e1, e2), omega arith)
 
 pub fold-spec : {M : Type 1} → statement M

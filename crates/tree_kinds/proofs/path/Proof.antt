@@ -11,9 +11,11 @@ use Rattle.tree_kinds.proofs.path.Tie as tie
 
 returns : tie.Need-returns
 returns c =
-    let a = c .before .before .args in
+    let s = c .before .before in
+    let a = s .args in
     c .path-of .ensures
-    ∙ ap (λ (l : List Dig). outcome (a .r) 1 (Q.path (a .x) (a .xn) (a .sides) l)) (take-more (a .siblings) (a .n) (c .before .before .good .1 .1 .1 .1 .1 .0 .1 .0 .1) (c .before .if1 .taken))
+    ∙ ap (λ (l : List Dig). outcome (a .r) 1 (Q.path (a .x) (a .xn) (a .sides) l))
+    (take-more (a .siblings) (a .n) (s .good .1 .1 .1 .1 .1 .0 .1 .0 .1) (c .before .if1 .taken))
 
 pub path-spec : {M : Type 1} → statement M
 path-spec = tie.close (tie.spec (search needs) returns (search needs) (λ c. search needs))

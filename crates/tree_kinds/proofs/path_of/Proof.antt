@@ -1,6 +1,6 @@
 -- Both folds, their U1, and the three digests in a row.
 use mathlib.Core.Path.{_∙_}
-use Prim.Native.Nat.{ℕ}
+use native.Mathlib.Omega.{arith}
 use lib.ListN.{take}
 use Rattle.paper.specs.Requests as Q
 use Rattle.replies.proofs.Stages.{Met, begun, passes, refuses}
@@ -9,7 +9,9 @@ use borrow.Author.Needs.{needs}
 use Rattle.tree_kinds.proofs.path_of.Statement.{statement}
 use Rattle.tree_kinds.proofs.path_of.Tie as tie
 
-opened : (c : tie.Else1) → let a = c .before .before .args in Met 1 (a .r) 1 (Q.path (a .x) (a .xn) (a .sides) (take (a .n) (a .siblings))) 0
+opened : (c : tie.Else1)
+    → let a = c .before .before .args in
+    Met 1 (a .r) 1 (Q.path (a .x) (a .xn) (a .sides) (take (a .n) (a .siblings))) 0
 opened c = passes (begun _ _ _) (c .if1 .left)
 
 returns : tie.Need-returns
@@ -22,7 +24,8 @@ returns-2 c =
     let g = u .before .before .before in
     let f = g .before in
     c .accept .ensures
-    ∙ path-answered (opened (f .before .before)) (f .fold .ensures .0) (g .fold2 .ensures .0) (u .u1 .ensures) (t .three .ensures)
+    ∙ path-answered (opened (f .before .before)) (f .fold .ensures .0) (g .fold2 .ensures .0) (u .u1 .ensures)
+    (t .three .ensures) (omega (arith, t .three .ok))
 
 pub path-of-spec : {M : Type 1} → statement M
 path-of-spec =

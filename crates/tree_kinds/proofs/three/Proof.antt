@@ -1,9 +1,9 @@
 -- Three puts, each where the last one ended, fill the array.
-use mathlib.Core.Path.{refl, ap, _∙_}
+use mathlib.Core.Path.{refl, _∙_}
 use mathlib.Core.List.{List, [], append-nil}
 use Prim.Native.Nat.{ℕ}
 use native.Mathlib.Omega.{arith}
-use lib.ListN.{length, replicate}
+use lib.ListN.{replicate}
 use Rattle.seqs.specs.Over.{Front, front-next}
 use borrow.Author.Needs.{needs}
 use Rattle.tree_kinds.proofs.three.Statement.{statement}
@@ -11,14 +11,16 @@ use Rattle.tree_kinds.proofs.three.Tie as tie
 
 returns : tie.Need-returns
 returns c =
-    let s = c .before .before .before .before .before .before .before .before .before .before .before .before in
+    let p3 = c .before in
+    let p2 = p3 .before .before .before .before in
+    let p1 = p2 .before .before .before .before in
+    let s = p1 .before .before .before in
     let d : List ℕ = replicate 96 0 in
     let r0 : Front d d [] 0 = record { here = refl; long = refl } in
-    let r1 = front-next (c .before .before .before .before .before .before .before .before .before .put .last .0) (s .args .t1) 32 32 r0 (c .before .before .before .before .before .before .before .before .before .put .ensures) (s .good .0 .1 .0 .1) refl (omega arith) in
-    let r2 = front-next (c .before .before .before .before .before .put2 .last .0) (s .args .t2) 32 64 r1 (c .before .before .before .before .before .put2 .ensures) (s .good .1 .0 .1 .0 .1) refl (omega arith) in
-    let r3 = front-next (c .before .put3 .last .0) (s .args .t3) 32 96 r2 (c .before .put3 .ensures) (s .good .1 .1 .0 .1 .0 .1) refl (omega arith) in
-    let e = r3 .here ∙ append-nil _ in
-    (e, ap length e ∙ r3 .long)
+    let r1 = front-next _ _ 32 32 r0 (p1 .put .ensures) (s .good .0 .1 .0 .1) refl (omega arith) in
+    let r2 = front-next _ _ 32 64 r1 (p2 .put2 .ensures) (s .good .1 .0 .1 .0 .1) refl (omega arith) in
+    let r3 = front-next _ _ 32 96 r2 (p3 .put3 .ensures) (s .good .1 .1 .0 .1 .0 .1) refl (omega arith) in
+    r3 .here ∙ append-nil _
 
 pub three-spec : {M : Type 1} → statement M
 three-spec =
