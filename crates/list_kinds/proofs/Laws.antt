@@ -33,8 +33,8 @@ unfolding recordForms
 record-cost r e = omega (arith, blocks-of e, record-by r (blank r))
 
 -- the check of a memorandum behind other strings, from the digest that was worked for all of them
-made : (before : List Str) (t : Str) (m : Dig) {u : Digest} {r b : Bool} → u ≡ worked (digest sha256 t) (before ++ (t ∷ []))
-    → r ≡ same (u .bytes) m → not r ≡ b → Made (comparing 8 before t (same (digest sha256 t) m)) b 0 (u .blocks)
+pub made : (before : List Str) (t : Str) (m : Dig) {u : Digest} {r b : Bool}
+    → u ≡ worked (digest sha256 t) (before ++ (t ∷ [])) → r ≡ same (u .bytes) m → not r ≡ b → Made (comparing 8 before t (same (digest sha256 t) m)) b 0 (u .blocks)
 made before t m e h k =
     let p = compared {number = 8} {n = 0} before t m (bytes-of e) h k in
     record { fails = p .fails; count = omega (arith, blocks-of e, p .count) }
@@ -64,12 +64,6 @@ module _ (k : Dig) (A A′ : ℕ) (old new : Record) (y y′ : Dig) where
       ) in
       rw (n, e5, e4, e3, e2, e1) refl
 
-  pub change-made : (m : Dig) {u : Digest} {r b : Bool}
-      → u ≡ worked (digest sha256 changed) (changeForms sha256 A A′ old new ++ (changed ∷ []))
-      → r ≡ same (u .bytes) m → not r ≡ b
-      → Made (comparing 8 (changeForms sha256 A A′ old new) changed (same (digest sha256 changed) m)) b 0 (u .blocks)
-  change-made m e h k = made (changeForms sha256 A A′ old new) changed m e h k
-
 module _ (k : Dig) (A A′ : ℕ) (r : Record) (y : Dig) where
   abbrev asked : Str
   asked = memo (v1 (digest sha256 (leafOf sha256 A A′ r)) y) k
@@ -84,12 +78,6 @@ module _ (k : Dig) (A A′ : ℕ) (r : Record) (y : Dig) where
       let n : h .blocks + 3 ≡ cost (leafForms sha256 A A′ r ++ (asked ∷ [])) =
       omega (arith, blocks-of e1, cost-append (leafForms sha256 A A′ r) (asked ∷ []), cost-append (recordForms r) f) in
       rw (n, e3, e2, e1) refl
-
-  pub leaf-made : (m : Dig) {u : Digest} {t b : Bool}
-      → u ≡ worked (digest sha256 asked) (leafForms sha256 A A′ r ++ (asked ∷ []))
-      → t ≡ same (u .bytes) m → not t ≡ b
-      → Made (comparing 8 (leafForms sha256 A A′ r) asked (same (digest sha256 asked) m)) b 0 (u .blocks)
-  leaf-made m e h k = made (leafForms sha256 A A′ r) asked m e h k
 
 -- ── findings ──
 

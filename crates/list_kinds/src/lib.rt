@@ -120,7 +120,9 @@ fn change_memo(
     y: [u8; 32],
     yn: [u8; 32],
 ) -> Digest
-    ensures { λ d. ⌜ d ≡ worked (S.digest sha256 (S.memo (changeSays sha256 (a .0) (b .0) old new y yn) secret)) (changeForms sha256 (a .0) (b .0) old new ++ (S.memo (changeSays sha256 (a .0) (b .0) old new y yn) secret ∷ [])) ⌝ }
+    ensures { λ d. ⌜ d ≡ worked (S.digest sha256 (S.memo (changeSays sha256 (a .0) (b .0) old new y yn) secret))
+        (changeForms sha256 (a .0) (b .0) old new
+        ++ (S.memo (changeSays sha256 (a .0) (b .0) old new y yn) secret ∷ [])) ⌝ }
 {
     let h = digests::record_hash(old);
     let hb = h.bytes;
@@ -337,7 +339,10 @@ fn say(r: Registers, o: AskReply) -> Outcome
 
 // V1 of a leaf, with all that is formed for it.
 fn leaf_memo(secret: [u8; 32], a: Item, b: Item, rec: Record, y: [u8; 32]) -> Digest
-    ensures { λ d. ⌜ d ≡ worked (S.digest sha256 (S.memo (S.v1 (S.digest sha256 (leafOf sha256 (a .0) (b .0) rec)) y) secret)) (leafForms sha256 (a .0) (b .0) rec ++ (S.memo (S.v1 (S.digest sha256 (leafOf sha256 (a .0) (b .0) rec)) y) secret ∷ [])) ⌝ }
+    ensures { λ d. ⌜ d ≡ worked
+        (S.digest sha256 (S.memo (S.v1 (S.digest sha256 (leafOf sha256 (a .0) (b .0) rec)) y) secret))
+        (leafForms sha256 (a .0) (b .0) rec
+        ++ (S.memo (S.v1 (S.digest sha256 (leafOf sha256 (a .0) (b .0) rec)) y) secret ∷ [])) ⌝ }
 {
     let h = digests::record_hash(rec);
     let hb = h.bytes;

@@ -73,7 +73,9 @@ fn place_memo(
     yn: [u8; 32],
     m: [u8; 32],
 ) -> Tried
-    ensures { λ t. ⌜ (t .fits ≡ opposite (noneFits sha256 k (placeSays sha256 (a .0) (an .0) (bn .0) w y yn) m)) × (t .blocks ≡ cost (placeForms (a .0) (an .0) (bn .0) w ++ tried sha256 k (placeSays sha256 (a .0) (an .0) (bn .0) w y yn) m)) ⌝ }
+    ensures { λ t. ⌜ (t .fits ≡ opposite (noneFits sha256 k (placeSays sha256 (a .0) (an .0) (bn .0) w y yn) m))
+        × (t .blocks ≡ cost (placeForms (a .0) (an .0) (bn .0) w
+        ++ tried sha256 k (placeSays sha256 (a .0) (an .0) (bn .0) w y yn) m)) ⌝ }
 {
     let z = [0u8; 32];
     let l1 = digests::leaf(a, an, w);

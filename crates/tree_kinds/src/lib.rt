@@ -27,7 +27,8 @@ fn level(u: [u8; 32], s: [u8; 32], bit: u64) -> Digest
 // The first n siblings folded level by level, the lowest first.
 fn fold(x: [u8; 32], siblings: [[u8; 32]; 64], n: usize, sides: u64) -> Digest
     requires { ⌜ n ≤ 64 ⌝ }
-    ensures { λ d. ⌜ (d ≡ worked (S.foldUp sha256 x sides (take n siblings)) (S.foldForms sha256 x sides (take n siblings))) × (d .blocks ≤ 128) ⌝ }
+    ensures { λ d. ⌜ (d ≡ worked (S.foldUp sha256 x sides (take n siblings)) (S.foldForms sha256 x sides (take n siblings)))
+        × (d .blocks ≤ 128) ⌝ }
 {
     let mut u = x;
     let mut b: u64 = 0;
@@ -197,7 +198,9 @@ fn pair_answer(
     yn: [u8; 32],
     zn: [u8; 32],
 ) -> Outcome
-    ensures { λ o. ⌜ o ≡ acceptance r 0x84 (S.digest sha256 (S.memo (S.u2 x1 x2 (S.H sha256 y z) x1n x2n (S.H sha256 yn zn)) (r .secret))) (10 + S.cost (S.parentForms y z) + S.cost (S.parentForms yn zn)) ⌝ }
+    ensures { λ o. ⌜ o ≡ acceptance r 0x84
+        (S.digest sha256 (S.memo (S.u2 x1 x2 (S.H sha256 y z) x1n x2n (S.H sha256 yn zn)) (r .secret)))
+        (10 + S.cost (S.parentForms y z) + S.cost (S.parentForms yn zn)) ⌝ }
 {
     let k = r.secret;
     let h = digests::parent(y, z);

@@ -1,12 +1,14 @@
--- Each return is a row of the table, the tests on numbers first, then the memorandum as its callee worked it and the root.
+-- Each return is a row of the table: the tests on numbers, then the memorandum as its callee worked it, and the root.
 use mathlib.Core.Path.{sym, ap, _∙_}
 use Prim.Native.Nat.{ℕ}
 use native.Mathlib.Omega.{arith}
 use borrow.Author.Tests.{eq-eqb, ne-eqb}
+use Rattle.sha256.specs.Hash.{sha256}
 use Rattle.paper.specs.Requests as Q
+use Rattle.paper.specs.Refusals.{leafForms}
 use Rattle.paper.specs.Answers.{findingBytes}
 use Rattle.replies.proofs.Stages.{Met, begun, turned, passes, refuses, works, stops, answers}
-use Rattle.list_kinds.proofs.Laws.{leaf-made, finding-short}
+use Rattle.list_kinds.proofs.Laws.{made, finding-short}
 use borrow.Author.Needs.{needs}
 use Rattle.list_kinds.proofs.ask.Statement.{statement}
 use Rattle.list_kinds.proofs.ask.Tie as tie
@@ -36,12 +38,17 @@ formed c = passes (next (c .before .before)) (sym (c .before .is-malformed .ensu
 met : (c : tie.Else6) → At 6 0 (start c)
 met c = passes (formed (c .before .before)) (turned (c .before .meets .ensures) (c .if6 .left))
 
-fits : (c : tie.Else7) → At 7 (c .before .before .before .leaf-memo .result .blocks) (start (c .before .before .before .before .before))
+-- the same, once the memorandum is worked
+abbrev Worked : (i : ℕ) → tie.After-leaf-memo → Type 0
+Worked i c = At i (c .leaf-memo .result .blocks) (start (c .before .before))
+
+fits : (c : tie.Else7) → Worked 7 (c .before .before .before)
 fits c =
     let b = c .before .before .before in
-    works (met (b .before .before)) (leaf-made _ _ _ _ _ _ (b .leaf-memo .ensures) (c .before .same-digest .ensures) (c .if7 .left))
+    works (met (b .before .before))
+    (made (leafForms sha256 _ _ _) _ _ (b .leaf-memo .ensures) (c .before .same-digest .ensures) (c .if7 .left))
 
-current : (c : tie.Else8) → At 8 (c .before .before .before .before .before .before .leaf-memo .result .blocks) (start (c .before .before .before .before .before .before .before .before))
+current : (c : tie.Else8) → Worked 8 (c .before .before .before .before .before .before)
 current c = passes (fits (c .before .before .before)) (turned (c .before .same-digest2 .ensures) (c .if8 .left))
 
 returns : tie.Need-returns
@@ -57,16 +64,21 @@ returns-4 : tie.Need-returns-4
 returns-4 c = c .refuse4 .ensures ∙ refuses (item (c .before .before .before)) (eq-eqb _ _ (c .before .if4 .taken))
 
 returns-5 : tie.Need-returns-5
-returns-5 c = let b = c .before .before in c .refuse5 .ensures ∙ refuses (next (b .before)) (sym (b .is-malformed .ensures) ∙ c .before .if5 .taken)
+returns-5 c =
+    let b = c .before .before in
+    c .refuse5 .ensures ∙ refuses (next (b .before)) (sym (b .is-malformed .ensures) ∙ c .before .if5 .taken)
 
 returns-6 : tie.Need-returns-6
-returns-6 c = let b = c .before .before in c .refuse6 .ensures ∙ refuses (formed (b .before)) (turned (b .meets .ensures) (c .before .if6 .taken))
+returns-6 c =
+    let b = c .before .before in
+    c .refuse6 .ensures ∙ refuses (formed (b .before)) (turned (b .meets .ensures) (c .before .if6 .taken))
 
 returns-7 : tie.Need-returns-7
 returns-7 c =
     let b = c .before .before .before .before in
     c .refuse7 .ensures
-    ∙ stops (met (b .before .before)) (leaf-made _ _ _ _ _ _ (b .leaf-memo .ensures) (c .before .before .same-digest .ensures) (c .before .if7 .taken))
+    ∙ stops (met (b .before .before))
+    (made (leafForms sha256 _ _ _) _ _ (b .leaf-memo .ensures) (c .before .before .same-digest .ensures) (c .before .if7 .taken))
 
 returns-8 : tie.Need-returns-8
 returns-8 c =
@@ -77,7 +89,8 @@ returns-9 : tie.Need-returns-9
 returns-9 c =
     let f = c .before .find in
     c .say .ensures
-    ∙ answers (current (c .before .before)) (ap findingBytes (f .ensures .0)) (omega (arith, f .ensures .1)) (finding-short (f .result .finding))
+    ∙ answers (current (c .before .before)) (ap findingBytes (f .ensures .0)) (omega (arith, f .ensures .1))
+    (finding-short (f .result .finding))
 
 pub ask-spec : {M : Type 1} → statement M
 ask-spec =

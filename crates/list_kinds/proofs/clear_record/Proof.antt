@@ -1,11 +1,13 @@
--- Each return is a row of the table, the tests on numbers first, then the memorandum as its callee worked it and the root.
+-- Each return is a row of the table: the tests on numbers, then the memorandum as its callee worked it, and the root.
 use mathlib.Core.Path.{sym, _∙_}
 use Prim.Native.Nat.{ℕ}
 use native.Mathlib.Omega.{arith}
 use borrow.Author.Tests.{eq-eqb, ne-eqb}
+use Rattle.sha256.specs.Hash.{sha256}
 use Rattle.paper.specs.Requests as Q
+use Rattle.paper.specs.Refusals.{changeForms}
 use Rattle.replies.proofs.Stages.{Met, begun, turned, passes, refuses, works, stops, answers}
-use Rattle.list_kinds.proofs.Laws.{change-made}
+use Rattle.list_kinds.proofs.Laws.{made}
 use borrow.Author.Needs.{needs}
 use Rattle.list_kinds.proofs.clear_record.Statement.{statement}
 use Rattle.list_kinds.proofs.clear_record.Tie as tie
@@ -37,12 +39,17 @@ recorded c = passes (formed (c .before .before)) (sym (c .before .is-blank .ensu
 room : (c : tie.Else6) → At 6 0 (start c)
 room c = passes (recorded (c .before .before .before)) (ne-eqb _ _ (c .if6 .left))
 
-fits : (c : tie.Else7) → At 7 (c .before .before .before .change-memo .result .blocks) (start (c .before .before .before .before .before .before))
+-- the same, once the memorandum is worked
+abbrev Worked : (i : ℕ) → tie.After-change-memo → Type 0
+Worked i c = At i (c .change-memo .result .blocks) (start (c .before .before .before))
+
+fits : (c : tie.Else7) → Worked 7 (c .before .before .before)
 fits c =
     let b = c .before .before .before in
-    works (room (b .before .before .before)) (change-made _ _ _ _ _ _ _ _ (b .change-memo .ensures) (c .before .same-digest .ensures) (c .if7 .left))
+    works (room (b .before .before .before))
+    (made (changeForms sha256 _ _ _ _) _ _ (b .change-memo .ensures) (c .before .same-digest .ensures) (c .if7 .left))
 
-current : (c : tie.Else8) → At 8 (c .before .before .before .before .before .before .change-memo .result .blocks) (start (c .before .before .before .before .before .before .before .before .before))
+current : (c : tie.Else8) → Worked 8 (c .before .before .before .before .before .before)
 current c = passes (fits (c .before .before .before)) (turned (c .before .same-digest2 .ensures) (c .if8 .left))
 
 returns : tie.Need-returns
@@ -55,10 +62,14 @@ returns-3 : tie.Need-returns-3
 returns-3 c = c .refuse3 .ensures ∙ refuses (item (c .before .before .before)) (eq-eqb _ _ (c .before .if3 .taken))
 
 returns-4 : tie.Need-returns-4
-returns-4 c = let b = c .before .before in c .refuse4 .ensures ∙ refuses (next (b .before)) (sym (b .is-malformed .ensures) ∙ c .before .if4 .taken)
+returns-4 c =
+    let b = c .before .before in
+    c .refuse4 .ensures ∙ refuses (next (b .before)) (sym (b .is-malformed .ensures) ∙ c .before .if4 .taken)
 
 returns-5 : tie.Need-returns-5
-returns-5 c = let b = c .before .before in c .refuse5 .ensures ∙ refuses (formed (b .before)) (sym (b .is-blank .ensures) ∙ c .before .if5 .taken)
+returns-5 c =
+    let b = c .before .before in
+    c .refuse5 .ensures ∙ refuses (formed (b .before)) (sym (b .is-blank .ensures) ∙ c .before .if5 .taken)
 
 returns-6 : tie.Need-returns-6
 returns-6 c = c .refuse6 .ensures ∙ refuses (recorded (c .before .before .before .before)) (eq-eqb _ _ (c .before .if6 .taken))
@@ -68,7 +79,7 @@ returns-7 c =
     let b = c .before .before .before .before in
     c .refuse7 .ensures
     ∙ stops (room (b .before .before .before))
-    (change-made _ _ _ _ _ _ _ _ (b .change-memo .ensures) (c .before .before .same-digest .ensures) (c .before .if7 .taken))
+    (made (changeForms sha256 _ _ _ _) _ _ (b .change-memo .ensures) (c .before .before .same-digest .ensures) (c .before .if7 .taken))
 
 returns-8 : tie.Need-returns-8
 returns-8 c =
@@ -78,9 +89,8 @@ returns-8 c =
 returns-9 : tie.Need-returns-9
 returns-9 c =
     let b = c .before .before in
-    let e = b .root-and-counter .ensures in
-    c .accept .ensures
-    ∙ answers (current (b .before)) e (omega arith) (omega (arith, b .root-and-counter .ok))
+    let l = b .root-and-counter in
+    c .accept .ensures ∙ answers (current (b .before)) (l .ensures) (omega arith) (omega (arith, l .ok))
 
 pub clear-record-spec : {M : Type 1} → statement M
 clear-record-spec =

@@ -22,7 +22,9 @@ returns : tie.Need-returns
 returns c = c .refuse .ensures ∙ refuses (begun _ _ _) (c .before .if1 .taken)
 
 returns-2 : tie.Need-returns-2
-returns-2 c = let b = c .before .before in c .refuse2 .ensures ∙ refuses (unopened (b .before)) (sym (b .is-zero .ensures) ∙ c .before .if2 .taken)
+returns-2 c =
+    let b = c .before .before in
+    c .refuse2 .ensures ∙ refuses (unopened (b .before)) (sym (b .is-zero .ensures) ∙ c .before .if2 .taken)
 
 returns-3 : tie.Need-returns-3
 returns-3 c = c .accept .ensures ∙ answers (secret (c .before .before .before .before)) refl refl (omega arith)
