@@ -1,12 +1,12 @@
 -- The memoranda of a changed record and of a leaf, from what they are made of; and the bytes of findings.
-use mathlib.Core.Path.{_≡_, refl, ap₂, _∙_}
+use mathlib.Core.Path.{_≡_, refl}
 use mathlib.Core.Bool.{Bool, true, false, not}
 use mathlib.Core.List.{List, [], _∷_, _++_}
-use Prim.Native.Nat.{ℕ, _+_, _≤_}
+use Prim.Native.Nat.{ℕ, _+_, _*_, _≤_}
 use native.Mathlib.Omega.{arith}
 use lib.ListN.{length, length-append}
 use Rattle.seqs.specs.Choose.{pick}
-use Rattle.seqs.specs.Bytes.{same, be64, be64-length}
+use Rattle.seqs.specs.Bytes.{same, be64-length}
 use Rattle.sha256.specs.Hash.{sha256}
 use Rattle.paper.specs.declared.Record.{Record}
 use Rattle.paper.specs.declared.Finding.{Finding}
@@ -34,7 +34,8 @@ record-cost r e = omega (arith, blocks-of e, record-by r (blank r))
 
 -- the check of a memorandum behind other strings, from the digest that was worked for all of them
 pub made : (before : List Str) (t : Str) (m : Dig) {u : Digest} {r b : Bool}
-    → u ≡ worked (digest sha256 t) (before ++ (t ∷ [])) → r ≡ same (u .bytes) m → not r ≡ b → Made (comparing 8 before t (same (digest sha256 t) m)) b 0 (u .blocks)
+    → u ≡ worked (digest sha256 t) (before ++ (t ∷ [])) → r ≡ same (u .bytes) m → not r ≡ b
+    → Made (comparing 8 before t (same (digest sha256 t) m)) b 0 (u .blocks)
 made before t m e h k =
     let p = compared {number = 8} {n = 0} before t m (bytes-of e) h k in
     record { fails = p .fails; count = omega (arith, blocks-of e, p .count) }
@@ -81,20 +82,12 @@ module _ (k : Dig) (A A′ : ℕ) (r : Record) (y : Dig) where
 
 -- ── findings ──
 
-record-length : (r : Record) → length (spread (nums (numbers r))) ≡ 32
-record-length r =
-    simp length-append
-    (omega (arith, be64-length (r .revision .0), be64-length (r .mass .0), be64-length (r .offset .0), be64-length (r .rigging .0)))
+numbers-length : (l : List ℕ) → length (spread (nums l)) ≡ 8 * length l
+numbers-length [] = refl
+numbers-length (n ∷ l) = simp length-append (omega (arith, be64-length n, numbers-length l))
 
 -- a finding fits a reply
 pub finding-short : (f : Finding) → length (findingBytes f) ≤ 96
-finding-short (Recorded a r) =
-    let l : List ℕ = spread (nums (numbers r)) in
-    let n : length (be64 (a .0) ++ l) ≡ 40 = length-append (be64 (a .0)) l ∙ ap₂ (λ (x y : ℕ). x + y) (be64-length (a .0)) (record-length r) in
-    omega (arith, n)
-finding-short (Listed a) =
-    let n : length (be64 (a .0) ++ []) ≡ 8 = simp length-append (omega (arith, be64-length (a .0))) in
-    omega (arith, n)
-finding-short (Gap a b) =
-    let n : length (be64 (a .0) ++ (be64 (b .0) ++ [])) ≡ 16 = simp length-append (omega (arith, be64-length (a .0), be64-length (b .0))) in
-    omega (arith, n)
+finding-short (Recorded a r) = omega (arith, numbers-length (a .0 ∷ numbers r))
+finding-short (Listed a) = omega (arith, numbers-length (a .0 ∷ []))
+finding-short (Gap a b) = omega (arith, numbers-length (a .0 ∷ b .0 ∷ []))

@@ -17,8 +17,8 @@ use Rattle.paper.specs.Requests as Q
 use Rattle.paper.specs.Refusals.{Check, order, needs, Verdict, refused, passed, judge}
 use Rattle.paper.specs.Answers.{answer}
 use Rattle.paper.specs.Module.{told}
-use Rattle.replies.specs.Outcomes.{outcomeOf, outcome, refusal, acceptance}
 use Rattle.paper.proofs.Ceilings.{cost-append}
+use Rattle.replies.specs.Outcomes.{outcomeOf, outcome, refusal, acceptance}
 
 -- ── one check after the other ──
 

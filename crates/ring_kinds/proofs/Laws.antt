@@ -24,11 +24,15 @@ module _ (k : Dig) (A A′ B′ : ℕ) (ω y y′ : Dig) where
   -- the two orders
   abbrev pub order1 : Str
   order1 =
-      memo (u2 (digest sha256 (leaf A A′ ω)) (digest sha256 (leaf A′ B′ nought)) y (digest sha256 (leaf A B′ ω)) nought y′) k
+      let x1 = digest sha256 (leaf A A′ ω) in
+      let x2 = digest sha256 (leaf A′ B′ nought) in
+      memo (u2 x1 x2 y (digest sha256 (leaf A B′ ω)) nought y′) k
 
   abbrev pub order2 : Str
   order2 =
-      memo (u2 (digest sha256 (leaf A′ B′ nought)) (digest sha256 (leaf A A′ ω)) y nought (digest sha256 (leaf A B′ ω)) y′) k
+      let x1 = digest sha256 (leaf A A′ ω) in
+      let x2 = digest sha256 (leaf A′ B′ nought) in
+      memo (u2 x2 x1 y nought (digest sha256 (leaf A B′ ω)) y′) k
 
   module _ (m : Dig) where
     abbrev Found : Bool → ℕ → Type 0

@@ -41,9 +41,10 @@ module _ (u : Dig) (bits : ℕ) (l : List Dig) (i : ℕ) (s : Dig) (g : getD l i
   pub forms-next : (b n : ℕ) → n ≡ b + cost (foldForms sha256 u bits (drop i l))
       → n ≡ b + d .blocks + cost (foldForms sha256 (d .bytes) (bits / 2) (drop (i + 1) l))
   forms-next b n k =
-      let q : cost (foldForms sha256 u bits (drop i l)) ≡ d .blocks + cost (foldForms sha256 (d .bytes) (bits / 2) (drop (i + 1) l)) =
-      rw (drop-cons l i [] h, add-one, g, e)
-      (cost-append (upForms sha256 u s (bits % 2)) (foldForms sha256 (up sha256 u s (bits % 2)) (bits / 2) (drop (suc i) l))) in
+      let rest = foldForms sha256 (up sha256 u s (bits % 2)) (bits / 2) (drop (suc i) l) in
+      let q : cost (foldForms sha256 u bits (drop i l))
+      ≡ d .blocks + cost (foldForms sha256 (d .bytes) (bits / 2) (drop (i + 1) l)) =
+      rw (drop-cons l i [] h, add-one, g, e) (cost-append (upForms sha256 u s (bits % 2)) rest) in
       omega (arith, k, q)
 
 pub up-end : (u : Dig) (bits : ℕ) (l : List Dig) (i : ℕ) → length l ≤ i → foldUp sha256 u bits (drop i l) ≡ u

@@ -20,7 +20,8 @@ opened c = passes (begun _ _ _) (c .if1 .left)
 fits : (c : tie.Else2) → At 2 2 (c .before .before .before .before .before .before .before)
 fits c =
     let b = c .before .before .before in
-    works (opened (b .before .before)) (compared [] _ _ (bytes-of (b .ei .ensures)) (c .before .same-digest .ensures) (c .if2 .left))
+    works (opened (b .before .before))
+    (compared [] _ _ (bytes-of (b .ei .ensures)) (c .before .same-digest .ensures) (c .if2 .left))
 
 current : (c : tie.Else3) → At 3 2 (c .before .before .before .before .before .before .before .before .before .before)
 current c = passes (fits (c .before .before .before)) (turned (c .before .same-digest2 .ensures) (c .if3 .left))

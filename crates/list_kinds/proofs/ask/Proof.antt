@@ -75,10 +75,11 @@ returns-6 c =
 
 returns-7 : tie.Need-returns-7
 returns-7 c =
-    let b = c .before .before .before .before in
+    let d = c .before .before in
+    let b = d .before .before in
     c .refuse7 .ensures
     ∙ stops (met (b .before .before))
-    (made (leafForms sha256 _ _ _) _ _ (b .leaf-memo .ensures) (c .before .before .same-digest .ensures) (c .before .if7 .taken))
+    (made (leafForms sha256 _ _ _) _ _ (b .leaf-memo .ensures) (d .same-digest .ensures) (c .before .if7 .taken))
 
 returns-8 : tie.Need-returns-8
 returns-8 c =

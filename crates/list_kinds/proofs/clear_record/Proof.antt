@@ -72,14 +72,16 @@ returns-5 c =
     c .refuse5 .ensures ∙ refuses (formed (b .before)) (sym (b .is-blank .ensures) ∙ c .before .if5 .taken)
 
 returns-6 : tie.Need-returns-6
-returns-6 c = c .refuse6 .ensures ∙ refuses (recorded (c .before .before .before .before)) (eq-eqb _ _ (c .before .if6 .taken))
+returns-6 c =
+    c .refuse6 .ensures ∙ refuses (recorded (c .before .before .before .before)) (eq-eqb _ _ (c .before .if6 .taken))
 
 returns-7 : tie.Need-returns-7
 returns-7 c =
-    let b = c .before .before .before .before in
+    let d = c .before .before in
+    let b = d .before .before in
     c .refuse7 .ensures
     ∙ stops (room (b .before .before .before))
-    (made (changeForms sha256 _ _ _ _) _ _ (b .change-memo .ensures) (c .before .before .same-digest .ensures) (c .before .if7 .taken))
+    (made (changeForms sha256 _ _ _ _) _ _ (b .change-memo .ensures) (d .same-digest .ensures) (c .before .if7 .taken))
 
 returns-8 : tie.Need-returns-8
 returns-8 c =

@@ -8,11 +8,13 @@ use Rattle.list_kinds.proofs.find.Tie as tie
 
 returns : tie.Need-returns
 unfolding findingOf
-returns c = (rw (eq-eqb _ _ (c .before .before .if1 .taken), sym (c .before .is-blank .ensures) ∙ c .if2 .taken) refl, refl)
+returns c =
+    (rw (eq-eqb _ _ (c .before .before .if1 .taken), sym (c .before .is-blank .ensures) ∙ c .if2 .taken) refl, refl)
 
 returns-2 : tie.Need-returns-2
 unfolding findingOf
-returns-2 c = (rw (eq-eqb _ _ (c .before .before .if1 .taken), sym (c .before .is-blank .ensures) ∙ c .if2 .left) refl, refl)
+returns-2 c =
+    (rw (eq-eqb _ _ (c .before .before .if1 .taken), sym (c .before .is-blank .ensures) ∙ c .if2 .left) refl, refl)
 
 returns-3 : tie.Need-returns-3
 unfolding findingOf

@@ -64,14 +64,16 @@ returns-4 c =
     c .refuse4 .ensures ∙ refuses (next (b .before)) (sym (b .is-malformed .ensures) ∙ c .before .if4 .taken)
 
 returns-5 : tie.Need-returns-5
-returns-5 c = c .refuse5 .ensures ∙ refuses (formed (c .before .before .before .before)) (eq-eqb _ _ (c .before .if5 .taken))
+returns-5 c =
+    c .refuse5 .ensures ∙ refuses (formed (c .before .before .before .before)) (eq-eqb _ _ (c .before .if5 .taken))
 
 returns-6 : tie.Need-returns-6
 returns-6 c =
-    let b = c .before .before .before .before in
+    let d = c .before .before in
+    let b = d .before .before in
     c .refuse6 .ensures
     ∙ stops (room (b .before .before .before))
-    (made (changeForms sha256 _ _ _ _) _ _ (b .change-memo .ensures) (c .before .before .same-digest .ensures) (c .before .if6 .taken))
+    (made (changeForms sha256 _ _ _ _) _ _ (b .change-memo .ensures) (d .same-digest .ensures) (c .before .if6 .taken))
 
 returns-7 : tie.Need-returns-7
 returns-7 c =

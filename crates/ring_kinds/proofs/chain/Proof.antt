@@ -21,7 +21,8 @@ first c =
     works (opened (c .before .before .before .before .before))
     (compared [] _ _ (bytes-of (c .before .before .before .ei .ensures)) (c .before .same-digest .ensures) (c .if2 .left))
 
-second : (c : tie.Else3) → At 3 4 (c .before .before .before .before .before .before .before .before .before .before .before)
+second : (c : tie.Else3)
+    → At 3 4 (c .before .before .before .before .before .before .before .before .before .before .before)
 second c =
     works (first (c .before .before .before .before))
     (compared [] _ _ (bytes-of (c .before .before .before .ei2 .ensures)) (c .before .same-digest2 .ensures) (c .if3 .left))

@@ -32,7 +32,8 @@ returns-3 c =
     let l = c .before .before .before .before .before in
     let k = l .before .before .before .before .before .before .args .r .secret in
     let e = ap (λ (x : Dig). digest sha256 (memo (ei nought x) k)) (bytes-of (l .leaf .ensures)) in
-    c .accept .ensures ∙ issues _ (named (l .before .before)) (bytes-of (c .before .before .before .ei .ensures) ∙ e) refl refl
+    c .accept .ensures
+    ∙ issues _ (named (l .before .before)) (bytes-of (c .before .before .before .ei .ensures) ∙ e) refl refl
 
 pub first-spec : {M : Type 1} → statement M
 first-spec =

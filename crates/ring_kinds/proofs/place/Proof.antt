@@ -61,8 +61,8 @@ add-accept : tie.Need-add-accept
 add-accept c =
     let b = c .before .before .before .before .before .before in
     let a = b .before .before .before .before .before .before .before .before .before .before .before .before .args in
-    omega
-    (arith, b .place-memo .ensures .1, tried-cost (a .r .secret) (a .a .0) (a .an .0) (a .bn .0) (a .w) (a .y) (a .yn) (a .m))
+    let most = tried-cost (a .r .secret) (a .a .0) (a .an .0) (a .bn .0) (a .w) (a .y) (a .yn) (a .m) in
+    omega (arith, b .place-memo .ensures .1, most)
 
 returns-7 : tie.Need-returns-7
 returns-7 c =

@@ -30,7 +30,8 @@ first c =
     sym
     (c .same-digest .ensures
     ∙ ap (λ (d : Dig). same d (a .m))
-    (bytes-of (c .before .before .u2 .ensures) ∙ (λ i. digest sha256 (memo (u2 (x1 i) (x2 i) (a .y) (x1′ i) nought (a .yn)) (a .k)))))
+    (bytes-of (c .before .before .u2 .ensures)
+    ∙ (λ i. digest sha256 (memo (u2 (x1 i) (x2 i) (a .y) (x1′ i) nought (a .yn)) (a .k)))))
 
 second : (c : tie.After-same-digest2)
     → Said two (c .before .before .before .before .before .before .before .before .before .before) (c .same-digest2 .result)
@@ -43,7 +44,8 @@ second c =
     sym
     (c .same-digest2 .ensures
     ∙ ap (λ (d : Dig). same d (a .m))
-    (bytes-of (c .before .before .u22 .ensures) ∙ (λ i. digest sha256 (memo (u2 (x2 i) (x1 i) (a .y) nought (x1′ i) (a .yn)) (a .k)))))
+    (bytes-of (c .before .before .u22 .ensures)
+    ∙ (λ i. digest sha256 (memo (u2 (x2 i) (x1 i) (a .y) nought (x1′ i) (a .yn)) (a .k)))))
 
 returns : tie.Need-returns
 returns c = found-first _ _ _ _ _ _ _ _ (first (c .before) ∙ c .if1 .taken)

@@ -36,7 +36,8 @@ rise c = c .level .ensures
 add-b : tie.Need-add-b Inv-loop μ-loop
 add-b c =
     let k = c .before .before .before .before .before .loop in
-    omega (arith, blocks-of (rise (c .before .before)), level-cost (k .u) (getD (c .before .before .before .before .before .before .args .t2) (k .i) []) (k .bits % 2))
+    let s = getD (c .before .before .before .before .before .before .args .t2) (k .i) [] in
+    omega (arith, blocks-of (rise (c .before .before)), level-cost (k .u) s (k .bits % 2))
 
 loop-again : tie.Need-loop-again Inv-loop μ-loop
 loop-again c =

@@ -21,7 +21,8 @@ first c =
     works (opened (c .before .before .before .before .before))
     (compared [] _ _ (bytes-of (c .before .before .before .u1 .ensures)) (c .before .same-digest .ensures) (c .if2 .left))
 
-second : (c : tie.Else3) → At 3 6 (c .before .before .before .before .before .before .before .before .before .before .before)
+second : (c : tie.Else3)
+    → At 3 6 (c .before .before .before .before .before .before .before .before .before .before .before)
 second c =
     works (first (c .before .before .before .before))
     (compared [] _ _ (bytes-of (c .before .before .before .u12 .ensures)) (c .before .same-digest2 .ensures) (c .if3 .left))

@@ -14,7 +14,9 @@ use Rattle.tree_kinds.proofs.pair.Tie as tie
 
 -- the first i checks are met, n blocks worked
 abbrev At : (i n : ℕ) → tie.Start → Type 0
-At i n c = let a = c .args in Met i (a .r) 4 (Q.pair (a .x1) (a .y) (a .x1n) (a .yn) (a .m1) (a .x2) (a .z) (a .x2n) (a .zn) (a .m2)) n
+At i n c =
+    let a = c .args in
+    Met i (a .r) 4 (Q.pair (a .x1) (a .y) (a .x1n) (a .yn) (a .m1) (a .x2) (a .z) (a .x2n) (a .zn) (a .m2)) n
 
 opened : (c : tie.Else1) → At 1 0 (c .before .before)
 opened c = passes (begun _ _ _) (c .if1 .left)
@@ -24,7 +26,8 @@ first c =
     works (opened (c .before .before .before .before .before))
     (compared [] _ _ (bytes-of (c .before .before .before .u1 .ensures)) (c .before .same-digest .ensures) (c .if2 .left))
 
-second : (c : tie.Else3) → At 3 6 (c .before .before .before .before .before .before .before .before .before .before .before)
+second : (c : tie.Else3)
+    → At 3 6 (c .before .before .before .before .before .before .before .before .before .before .before)
 second c =
     works (first (c .before .before .before .before))
     (compared [] _ _ (bytes-of (c .before .before .before .u12 .ensures)) (c .before .same-digest2 .ensures) (c .if3 .left))
@@ -49,8 +52,8 @@ returns-3 c =
 returns-4 : tie.Need-returns-4
 returns-4 c =
     let a = c .before .before .before .before .before .before .before .before .before .before .before .before .args in
-    c .pair-answer .ensures
-    ∙ issues _ (second (c .before)) refl refl (omega (arith, cost-append (parentForms (a .yn) (a .zn)) (parentForms (a .y) (a .z))))
+    let e = cost-append (parentForms (a .yn) (a .zn)) (parentForms (a .y) (a .z)) in
+    c .pair-answer .ensures ∙ issues _ (second (c .before)) refl refl (omega (arith, e))
 
 pub pair-spec : {M : Type 1} → statement M
 pair-spec =

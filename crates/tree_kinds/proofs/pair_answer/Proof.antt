@@ -35,9 +35,10 @@ returns c =
     let a = p .before .before .before .args in
     let h = p .before .parent .ensures in
     let hn = p .parent2 .ensures in
-    let halves =
-    ap₂ (λ (p q : Dig). digest sha256 (memo (u2 (a .x1) (a .x2) p (a .x1n) (a .x2n) q) (a .r .secret))) (bytes-of h) (bytes-of hn) in
-    let w = bytes-of (c .before .before .before .before .before .u2 .ensures) ∙ halves in
+    let w =
+    bytes-of (c .before .before .before .before .before .u2 .ensures)
+    ∙ ap₂ (λ (p q : Dig). digest sha256 (memo (u2 (a .x1) (a .x2) p (a .x1n) (a .x2n) q) (a .r .secret)))
+    (bytes-of h) (bytes-of hn) in
     c .accept .ensures ∙ (λ i. acceptance (a .r) 0x84 (w i) (10 + blocks-of h i + blocks-of hn i))
 
 pub pair-answer-spec : {M : Type 1} → statement M

@@ -11,7 +11,9 @@ use Rattle.tree_kinds.proofs.raise.Tie as tie
 
 -- the first i checks are met, n blocks worked
 abbrev At : (i n : ℕ) → tie.Start → Type 0
-At i n c = let a = c .args in Met i (a .r) 5 (Q.raise (a .x1) (a .x2) (a .y) (a .x1n) (a .x2n) (a .yn) (a .m1) (a .z) (a .zn) (a .m2)) n
+At i n c =
+    let a = c .args in
+    Met i (a .r) 5 (Q.raise (a .x1) (a .x2) (a .y) (a .x1n) (a .x2n) (a .yn) (a .m1) (a .z) (a .zn) (a .m2)) n
 
 opened : (c : tie.Else1) → At 1 0 (c .before .before)
 opened c = passes (begun _ _ _) (c .if1 .left)
@@ -21,7 +23,8 @@ first c =
     works (opened (c .before .before .before .before .before))
     (compared [] _ _ (bytes-of (c .before .before .before .u2 .ensures)) (c .before .same-digest .ensures) (c .if2 .left))
 
-second : (c : tie.Else3) → At 3 7 (c .before .before .before .before .before .before .before .before .before .before .before)
+second : (c : tie.Else3)
+    → At 3 7 (c .before .before .before .before .before .before .before .before .before .before .before)
 second c =
     works (first (c .before .before .before .before))
     (compared [] _ _ (bytes-of (c .before .before .before .u1 .ensures)) (c .before .same-digest2 .ensures) (c .if3 .left))
