@@ -38,6 +38,10 @@ pub either-yes : (p : Bool) → either p true ≡ true
 either-yes true = refl
 either-yes false = refl
 
+pub either-no : (p : Bool) → either p false ≡ p
+either-no true = refl
+either-no false = refl
+
 -- ── facts in a row ──
 
 infixr 30 _and_
