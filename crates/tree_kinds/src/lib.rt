@@ -186,7 +186,7 @@ pub fn raise(
     replies::accept(r, 0x85, &wb, 11)
 }
 
-// The answer of a pair whose memoranda both match, seven blocks of which were worked for them.
+// The answer of a pair whose memoranda both match, for which six blocks were worked.
 fn pair_answer(
     r: Registers,
     x1: [u8; 32],
