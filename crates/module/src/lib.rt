@@ -77,7 +77,8 @@ pub fn answer(r: Registers, line: &[u8], reply: &mut [u8]) -> Answered
 
 // One line on registers where they lie: the answer by value, and what it gave stored.
 pub fn answer_here(regs: &mut Registers, line: &[u8], reply: &mut [u8]) -> Replied
-    ensures { λ o. ⌜ Promised (now (regs .entry)) (now (line .entry)) (now (reply .entry)) (answered (now (regs .exit)) o) (now (reply .exit)) ⌝ }
+    ensures { λ o. ⌜ Promised (now (regs .entry)) (now (line .entry)) (now (reply .entry))
+        (answered (now (regs .exit)) o) (now (reply .exit)) ⌝ }
 {
     let a = answer(*regs, line, reply);
     *regs = a.registers;
