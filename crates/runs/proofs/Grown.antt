@@ -40,7 +40,7 @@ module _ (D : List ℕ → Dig) (DD : (l : List ℕ) → IsDigest (D l)) (w : Wo
       → count v (leaves (regrown (replacing (found p T) X) T)) + one v (found p T) ≡ count v (leaves T) + count v (leaves X)
   one-count p X have v =
       let x = found p T in
-      let at = located p T have in
+      let at = located p T have .under-way in
       let new : count v (leaves (regrown (replacing x X) T)) ≡ count v (leaves X) + around v (wayTo p T) =
       ap (λ (t : Tree). count v (leaves t)) (regrown-one x X (wayTo p T) T at (once D DD w T g x)) ∙ count-plug v (wayTo p T) X in
       let old : count v (leaves T) ≡ count v (x ∷ []) + around v (wayTo p T) =
@@ -73,7 +73,7 @@ module _ (D : List ℕ → Dig) (DD : (l : List ℕ) → IsDigest (D l)) (w : Wo
   rewritten-hash A r new m =
       let x = found (isOf A) T in
       let X = tip (points A (nextOf x) (recordHash D new)) in
-      let at = located (isOf A) T (of-item D DD w T g A r m) in
+      let at = located (isOf A) T (of-item D DD w T g A r m) .under-way in
       rise-plug D (wayTo (isOf A) T) X ∙ ap (hashOf D) (sym (regrown-one x X (wayTo (isOf A) T) T at (once D DD w T g x)))
 
   pub rewritten-holds : (A : ℕ) (r new : Record) → Listed A r (w .items)

@@ -166,7 +166,7 @@ module _ (D : List ℕ → Dig) (DD : (l : List ℕ) → IsDigest (D l)) (w : Wo
       (record { old = hy .new; new = hy .old }) root k in
       let X = branch (tip (points B A ω)) (tip (points A B′ nought)) in
       let grown : y .was ≡ hashOf D (treeWith D A T (i ∷ l)) =
-      rise-plug D p X ∙ ap (hashOf D) (sym (regrown-one x X p T (located (gapHolds A) T have) (once x))) in
+      rise-plug D p X ∙ ap (hashOf D) (sym (regrown-one x X p T (located (gapHolds A) T have .under-way) (once x))) in
       subst (λ (z : Dig). Brings D w (insertLines D s A T (i ∷ l)) (rooted s z) (insert A clearedRecord (w .items))
       (w .changed)) grown
       (subst (λ (qs : List Request). Brings D w qs (rooted s (y .was)) (insert A clearedRecord (w .items)) (w .changed))

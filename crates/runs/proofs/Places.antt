@@ -64,39 +64,33 @@ module _ (p : Leaf → Bool) where
       by-side (yes k) f g = in-left (has p l) (has p r) (f k)
       by-side (no n) f g = in-right (has p l) (has p r) (g (omega (arith, count-append x (leaves l) (leaves r))))
 
-  pub found-passes : (T : Tree) → has p T ≡ true → p (found p T) ≡ true
-  found-passes empty h = absurd (true≢false (sym h))
-  found-passes (tip x) h = h
-  found-passes (branch l r) h = by-side (has p l) refl h (found-passes l) (found-passes r)
-    where
-      by-side : (b : Bool) → has p l ≡ b → either b (has p r) ≡ true → (has p l ≡ true → p (found p l) ≡ true)
-          → (has p r ≡ true → p (found p r) ≡ true) → p (pick b (found p l) (found p r)) ≡ true
-      by-side true e k f g = f e
-      by-side false e k f g = g k
+  -- the leaf found passes and occurs, and the tree is that leaf under its way
+  pub record Located (T : Tree) : Type 0 where
+    pub passes : p (found p T) ≡ true
+    pub occurs : 0 < count (found p T) (leaves T)
+    pub under-way : plug (wayTo p T) (tip (found p T)) ≡ T
 
-  pub found-occurs : (T : Tree) → has p T ≡ true → 0 < count (found p T) (leaves T)
-  found-occurs empty h = absurd (true≢false (sym h))
-  found-occurs (tip x) h = count-head x x [] refl
-  found-occurs (branch l r) h = by-side (has p l) refl h (found-occurs l) (found-occurs r)
-    where
-      by-side : (b : Bool) → has p l ≡ b → either b (has p r) ≡ true → (has p l ≡ true → 0 < count (found p l) (leaves l))
-          → (has p r ≡ true → 0 < count (found p r) (leaves r))
-          → 0 < count (pick b (found p l) (found p r)) (leaves l ++ leaves r)
-      by-side true e k f g = omega (arith, f e, count-append (found p l) (leaves l) (leaves r))
-      by-side false e k f g = omega (arith, g k, count-append (found p r) (leaves l) (leaves r))
-
-  -- the tree is the leaf under its way
-  pub located : (T : Tree) → has p T ≡ true → plug (wayTo p T) (tip (found p T)) ≡ T
+  pub located : (T : Tree) → has p T ≡ true → Located T
   located empty h = absurd (true≢false (sym h))
-  located (tip x) h = refl
+  located (tip x) h = record { passes = h; occurs = count-head x x [] refl; under-way = refl }
   located (branch l r) h = by-side (has p l) refl h (located l) (located r)
     where
-      by-side : (b : Bool) → has p l ≡ b → either b (has p r) ≡ true → (has p l ≡ true → plug (wayTo p l) (tip (found p l)) ≡ l)
-          → (has p r ≡ true → plug (wayTo p r) (tip (found p r)) ≡ r)
-          → plug (pick b (wayTo p l ++ (onRight r ∷ [])) (wayTo p r ++ (onLeft l ∷ []))) (tip (pick b (found p l) (found p r)))
-          ≡ branch l r
-      by-side true e k f g = plug-last (wayTo p l) (onRight r) _ ∙ ap (λ (t : Tree). branch t r) (f e)
-      by-side false e k f g = plug-last (wayTo p r) (onLeft l) _ ∙ ap (λ (t : Tree). branch l t) (g k)
+      by-side : (b : Bool) → has p l ≡ b → either b (has p r) ≡ true → (has p l ≡ true → Located l)
+          → (has p r ≡ true → Located r) → Located (branch l r)
+      by-side true e k f g =
+          let a = f e in
+          record {
+            passes = rw e (a .passes);
+            occurs = rw e (omega (arith, a .occurs, count-append (found p l) (leaves l) (leaves r)));
+            under-way = rw e (plug-last (wayTo p l) (onRight r) _ ∙ ap (λ (t : Tree). branch t r) (a .under-way));
+          }
+      by-side false e k f g =
+          let a = g k in
+          record {
+            passes = rw e (a .passes);
+            occurs = rw e (omega (arith, a .occurs, count-append (found p r) (leaves l) (leaves r)));
+            under-way = rw e (plug-last (wayTo p r) (onLeft l) _ ∙ ap (λ (t : Tree). branch l t) (a .under-way));
+          }
 
 -- ── two leaves under their fork ──
 
@@ -122,8 +116,8 @@ module _ (p q : Leaf → Bool) where
           (pick a (found p l) (found p r)) (pick b (found q l) (found q r)) (branch l r)
       by-sides true true e e′ h k n f g =
           plug-last (forkOf p q l .above) (onRight r) _ ∙ ap (λ (t : Tree). branch t r) (f e e′ n)
-      by-sides true false e e′ h k n f g = ap₂ (λ (t u : Tree). branch t u) (located p l e) (located q r k)
-      by-sides false true e e′ h k n f g = ap₂ (λ (t u : Tree). branch t u) (located q l e′) (located p r h)
+      by-sides true false e e′ h k n f g = ap₂ (λ (t u : Tree). branch t u) (located p l e .under-way) (located q r k .under-way)
+      by-sides false true e e′ h k n f g = ap₂ (λ (t u : Tree). branch t u) (located q l e′ .under-way) (located p r h .under-way)
       by-sides false false e e′ h k n f g =
           plug-last (forkOf p q r .above) (onLeft l) _ ∙ ap (λ (t : Tree). branch l t) (g h k n)
 
@@ -182,27 +176,22 @@ module _ (g : Leaf → Tree) where
       ∙ ap₂ (λ (t u : Tree). plug (f .above) (branch t u)) (regrown-plug (f .left) (tip a) (λ v h. k v (omega (arith, h))))
       (regrown-plug (f .right) (tip b) (λ v h. k v (omega (arith, h))))
 
+-- by a test that is known
+if-yes : {P : Type 0} (d : Dec P) (X Y : Tree) → P → ifYes d X Y ≡ X
+if-yes (yes e) X Y h = refl
+if-yes (no n) X Y h = absurd (n h)
+
+if-no : {P : Type 0} (d : Dec P) (X Y : Tree) → (P → ⊥) → ifYes d X Y ≡ Y
+if-no (yes e) X Y n = absurd (n e)
+if-no (no k) X Y n = refl
+
 -- one leaf that occurs once
 module _ (x : Leaf) (X : Tree) where
-  replaced : replacing x X x ≡ X
-  replaced = by-test (Leaf-discrete x x)
-    where
-      by-test : (d : Dec (x ≡ x)) → ifYes d X (tip x) ≡ X
-      by-test (yes e) = refl
-      by-test (no n) = absurd (n refl)
-
-  kept : (v : Leaf) → v ≢ x → replacing x X v ≡ tip v
-  kept v n = by-test (Leaf-discrete v x)
-    where
-      by-test : (d : Dec (v ≡ x)) → ifYes d X (tip v) ≡ tip v
-      by-test (yes e) = absurd (n e)
-      by-test (no m) = refl
-
   pub regrown-one : (p : Way) (T : Tree) → plug p (tip x) ≡ T → count x (leaves T) ≤ 1 → regrown (replacing x X) T ≡ plug p X
   regrown-one p T e once =
       ap (regrown (replacing x X)) (sym e) ∙ regrown-plug (replacing x X) p (tip x)
-      (λ v h. kept v (λ q. twice (subst (λ (u : Leaf). 0 < around u p) q h)))
-      ∙ ap (plug p) replaced
+      (λ v h. if-no (Leaf-discrete v x) X (tip v) (λ q. twice (subst (λ (u : Leaf). 0 < around u p) q h)))
+      ∙ ap (plug p) (if-yes (Leaf-discrete x x) X (tip x) refl)
     where
       twice : 0 < around x p → ⊥
       twice h =
@@ -212,27 +201,13 @@ module _ (x : Leaf) (X : Tree) where
 -- two leaves that occur once each
 module _ (x : Leaf) (X : Tree) (y : Leaf) (Y : Tree) (apart : x ≢ y) where
   first-replaced : replacingTwo x X y Y x ≡ X
-  first-replaced = by-test (Leaf-discrete x x)
-    where
-      by-test : (d : Dec (x ≡ x)) → ifYes d X (ifYes (Leaf-discrete x y) Y (tip x)) ≡ X
-      by-test (yes e) = refl
-      by-test (no n) = absurd (n refl)
+  first-replaced = if-yes (Leaf-discrete x x) X _ refl
 
   second-replaced : replacingTwo x X y Y y ≡ Y
-  second-replaced = by-test (Leaf-discrete y x) (Leaf-discrete y y)
-    where
-      by-test : (d : Dec (y ≡ x)) (c : Dec (y ≡ y)) → ifYes d X (ifYes c Y (tip y)) ≡ Y
-      by-test (yes e) c = absurd (apart (sym e))
-      by-test (no n) (yes e) = refl
-      by-test (no n) (no m) = absurd (m refl)
+  second-replaced = if-no (Leaf-discrete y x) X _ (λ e. apart (sym e)) ∙ if-yes (Leaf-discrete y y) Y (tip y) refl
 
   both-kept : (v : Leaf) → v ≢ x → v ≢ y → replacingTwo x X y Y v ≡ tip v
-  both-kept v n m = by-test (Leaf-discrete v x) (Leaf-discrete v y)
-    where
-      by-test : (d : Dec (v ≡ x)) (c : Dec (v ≡ y)) → ifYes d X (ifYes c Y (tip v)) ≡ tip v
-      by-test (yes e) c = absurd (n e)
-      by-test (no k) (yes e) = absurd (m e)
-      by-test (no k) (no j) = refl
+  both-kept v n m = if-no (Leaf-discrete v x) X _ n ∙ if-no (Leaf-discrete v y) Y (tip v) m
 
   pub regrown-two : (f : Fork) (T : Tree) → Forks f x y T → count x (leaves T) ≤ 1 → count y (leaves T) ≤ 1
       → regrown (replacingTwo x X y Y) T ≡ plug-two f (leftOne f X Y) (rightOne f X Y)

@@ -1,8 +1,8 @@
 -- Leaves of the ring, one by one: each occurs once, stands for a listed item and leads to one, and no two have the same item
 -- or lead to the same one.
-use mathlib.Core.Path.{_≡_}
+use mathlib.Core.Path.{_≡_, sym, ap, _∙_}
 use mathlib.Core.List.{List, [], _∷_, List·Memᴰ·head, List·Memᴰ·tail}
-use mathlib.Core.Logic.{_⊎_, inl, inr}
+use mathlib.Core.Logic.{_⊎_, inl, inr, _≢_}
 use Prim.Native.Nat.{ℕ, _≤_, _<_}
 use native.Mathlib.Decide.{decLt}
 use native.Mathlib.Omega.{arith}
@@ -21,33 +21,71 @@ one-most x y = by-test (Leaf-discrete x y)
     by-test (yes e) = omega arith
     by-test (no n) = omega arith
 
+-- ── leaves that differ in a number ──
+
+-- every leaf of a list has another number, by `of`, than all behind it
+abbrev Lone : (of : Leaf → ℕ) → List Leaf → Type 0
+Lone of [] = Unit {0}
+Lone of (x ∷ l) = ((y : Leaf) → 0 < count y l → of y ≢ of x) × Lone of l
+
+-- so its number tells a leaf
+lone-same : (of : Leaf → ℕ) (x y : Leaf) (l : List Leaf) → Lone of l → of x ≡ of y → 0 < count x l → 0 < count y l → x ≡ y
+lone-same of x y [] g e m n = absurd (omega (arith, count-nil x))
+lone-same of x y (z ∷ l) g e m n = by-places (count-cases x z l m) (count-cases y z l n) (lone-same of x y l (g .1) e)
+  where
+    by-places : (x ≡ z) ⊎ (0 < count x l) → (y ≡ z) ⊎ (0 < count y l) → (0 < count x l → 0 < count y l → x ≡ y) → x ≡ y
+    by-places (inl p) (inl q) f = p ∙ sym q
+    by-places (inl p) (inr k) f = absurd (g .0 y k (sym e ∙ ap of p))
+    by-places (inr j) (inl q) f = absurd (g .0 x j (e ∙ ap of q))
+    by-places (inr j) (inr k) f = f j k
+
+-- and none occurs twice
+lone-once : (of : Leaf → ℕ) (x : Leaf) (l : List Leaf) → Lone of l → count x l ≤ 1
+lone-once of x [] g = omega (arith, count-nil x)
+lone-once of x (z ∷ l) g = by-place (decLt 0 (count x l)) (decLt 0 (one x z)) (lone-once of x l (g .1))
+  where
+    by-place : Dec (0 < count x l) → Dec (0 < one x z) → count x l ≤ 1 → count x (z ∷ l) ≤ 1
+    by-place (no n) d r = omega (arith, count-cons x z l, one-most x z)
+    by-place (yes k) (yes e) r = absurd (g .0 x k (ap of (one-same x z e)))
+    by-place (yes k) (no n) r = omega (arith, count-cons x z l)
+
 module _ {R : Type 0} (h : R → Dig) where
-  chain-once : (A B : ℕ) (w : Dig) (a : ℕ) (r : R) (l : List (Item R)) (z : ℕ) → Ascending a l
-      → count (points A B w) (chainOf h a r l z) ≤ 1
-  chain-once A B w a r [] z g =
-      let x = points A B w in
-      let y = points a z (h r) in
-      omega (arith, count-cons x y [], count-nil x, one-most x y)
-  chain-once A B w a r (item b s ∷ l) z g = by-tail (decLt 0 (count (points A B w) (chainOf h b s l z)))
-      (chain-once A B w b s l z (g .1))
+  lone-items : (a : ℕ) (r : R) (l : List (Item R)) (z : ℕ) → Ascending a l → Lone itemOf (chainOf h a r l z)
+  lone-items a r [] z g = ((λ y k. absurd (omega (arith, count-nil y))), tt)
+  lone-items a r (item b s ∷ l) z g = (later, lone-items b s l z (g .1))
     where
-      by-tail : Dec (0 < count (points A B w) (chainOf h b s l z)) → count (points A B w) (chainOf h b s l z) ≤ 1
-          → count (points A B w) (points a b (h r) ∷ chainOf h b s l z) ≤ 1
-      by-tail (no n) k = omega
-          (arith, count-cons (points A B w) (points a b (h r)) (chainOf h b s l z), one-most (points A B w) (points a b (h r)))
-      by-tail (yes m) k = by-head (decLt 0 (one (points A B w) (points a b (h r))))
+      later : (y : Leaf) → 0 < count y (chainOf h b s l z) → itemOf y ≢ a
+      later (points A B w) k e = omega (arith, bounds h A B w b s l z (g .1) k .0, g .0)
+
+  lone-nexts : (a : ℕ) (r : R) (l : List (Item R)) (z : ℕ) → z ≤ a → Ascending a l → Lone nextOf (chainOf h a r l z)
+  lone-nexts a r [] z hz g = ((λ y k. absurd (omega (arith, count-nil y))), tt)
+  lone-nexts a r (item b s ∷ l) z hz g = (later, lone-nexts b s l z (omega (arith, g .0)) (g .1))
+    where
+      later : (y : Leaf) → 0 < count y (chainOf h b s l z) → nextOf y ≢ b
+      later (points A B w) k e = by-bounds (bounds h A B w b s l z (g .1) k)
         where
-          by-head : Dec (0 < one (points A B w) (points a b (h r)))
-              → count (points A B w) (points a b (h r) ∷ chainOf h b s l z) ≤ 1
-          by-head (no n) = omega (arith, count-cons (points A B w) (points a b (h r)) (chainOf h b s l z))
-          by-head (yes e) =
-              let q = one-same (points A B w) (points a b (h r)) e in
-              let p : A ≡ a = cc in
-              absurd (omega (arith, bounds h A B w b s l z (g .1) m .0, g .0))
+          by-bounds : (b ≤ A) × ((A < B) ⊎ (B ≡ z)) → ⊥
+          by-bounds (c, inl d) = omega arith
+          by-bounds (c, inr d) = omega (arith, g .0)
+
+  -- ── leaves of the ring ──
 
   pub ring-once : (x : Leaf) (ls : List (Item R)) → Ascending 0 ls → count x (ring h ls) ≤ 1
   ring-once x [] g = omega (arith, count-nil x)
-  ring-once (points A B w) (item a r ∷ l) g = chain-once A B w a r l a (g .1)
+  ring-once x (item a r ∷ l) g = lone-once itemOf x (chainOf h a r l a) (lone-items a r l a (g .1))
+
+  -- no two have one item
+  pub one-of-item : (x y : Leaf) (ls : List (Item R)) → Ascending 0 ls → itemOf x ≡ itemOf y → 0 < count x (ring h ls)
+      → 0 < count y (ring h ls) → x ≡ y
+  one-of-item x y [] g e m n = absurd (omega (arith, count-nil x))
+  one-of-item x y (item a r ∷ l) g e m n = lone-same itemOf x y (chainOf h a r l a) (lone-items a r l a (g .1)) e m n
+
+  -- and no two lead to one item
+  pub one-to-item : (x y : Leaf) (ls : List (Item R)) → Ascending 0 ls → nextOf x ≡ nextOf y → 0 < count x (ring h ls)
+      → 0 < count y (ring h ls) → x ≡ y
+  one-to-item x y [] g e m n = absurd (omega (arith, count-nil x))
+  one-to-item x y (item a r ∷ l) g e m n =
+      lone-same nextOf x y (chainOf h a r l a) (lone-nexts a r l a (omega arith) (g .1)) e m n
 
   -- it stands for a listed item
   pub leaf-held : (x : Leaf) (ls : List (Item R)) → 0 < count x (ring h ls) → (s : R) × Listed (itemOf x) s ls × (h s ≡ hashIn x)
@@ -76,63 +114,3 @@ module _ {R : Type 0} (h : R → Dig) where
       by-place : (B ≡ a) ⊎ ((s : R) × Listed B s l) → (s : R) × Listed B s (item a r ∷ l)
       by-place (inl e) = (r, List·Memᴰ·head {x = item a r} (cc))
       by-place (inr t) = (t .0, List·Memᴰ·tail (t .1))
-
-  -- no two leaves have one item
-  first-chain : (A B B′ : ℕ) (w w′ : Dig) (a : ℕ) (r : R) (l : List (Item R)) (z : ℕ) → Ascending a l
-      → 0 < count (points A B w) (chainOf h a r l z) → 0 < count (points A B′ w′) (chainOf h a r l z)
-      → points A B w ≡ points A B′ w′
-  first-chain A B B′ w w′ a r [] z g m n = let e = count-single _ _ m in let f = count-single _ _ n in cc
-  first-chain A B B′ w w′ a r (item b s ∷ l) z g m n =
-      by-places (count-cases _ _ _ m) (count-cases _ _ _ n) (first-chain A B B′ w w′ b s l z (g .1))
-    where
-      by-places : (points A B w ≡ points a b (h r)) ⊎ (0 < count (points A B w) (chainOf h b s l z))
-          → (points A B′ w′ ≡ points a b (h r)) ⊎ (0 < count (points A B′ w′) (chainOf h b s l z))
-          → (0 < count (points A B w) (chainOf h b s l z) → 0 < count (points A B′ w′) (chainOf h b s l z)
-          → points A B w ≡ points A B′ w′)
-          → points A B w ≡ points A B′ w′
-      by-places (inl e) (inl f) rec = cc
-      by-places (inl e) (inr k) rec = let p : A ≡ a = cc in absurd (omega (arith, bounds h A B′ w′ b s l z (g .1) k .0, g .0))
-      by-places (inr k) (inl f) rec = let p : A ≡ a = cc in absurd (omega (arith, bounds h A B w b s l z (g .1) k .0, g .0))
-      by-places (inr k) (inr j) rec = rec k j
-
-  -- and none lead to one item
-  second-chain : (A A′ B : ℕ) (w w′ : Dig) (a : ℕ) (r : R) (l : List (Item R)) (z : ℕ) → z ≤ a → Ascending a l
-      → 0 < count (points A B w) (chainOf h a r l z) → 0 < count (points A′ B w′) (chainOf h a r l z)
-      → points A B w ≡ points A′ B w′
-  second-chain A A′ B w w′ a r [] z hz g m n = let e = count-single _ _ m in let f = count-single _ _ n in cc
-  second-chain A A′ B w w′ a r (item b s ∷ l) z hz g m n =
-      by-places (count-cases _ _ _ m) (count-cases _ _ _ n) (second-chain A A′ B w w′ b s l z (omega (arith, g .0)) (g .1))
-    where
-      -- a later leaf does not lead to b
-      not-b : (C : ℕ) (v : Dig) → B ≡ b → 0 < count (points C B v) (chainOf h b s l z) → ⊥
-      not-b C v p k = by-bounds (bounds h C B v b s l z (g .1) k)
-        where
-          by-bounds : (b ≤ C) × ((C < B) ⊎ (B ≡ z)) → ⊥
-          by-bounds (c, inl d) = omega arith
-          by-bounds (c, inr d) = omega (arith, g .0)
-
-      by-places : (points A B w ≡ points a b (h r)) ⊎ (0 < count (points A B w) (chainOf h b s l z))
-          → (points A′ B w′ ≡ points a b (h r)) ⊎ (0 < count (points A′ B w′) (chainOf h b s l z))
-          → (0 < count (points A B w) (chainOf h b s l z) → 0 < count (points A′ B w′) (chainOf h b s l z)
-          → points A B w ≡ points A′ B w′)
-          → points A B w ≡ points A′ B w′
-      by-places (inl e) (inl f) rec = cc
-      by-places (inl e) (inr k) rec = absurd (not-b A′ w′ (cc) k)
-      by-places (inr k) (inl f) rec = absurd (not-b A w (cc) k)
-      by-places (inr k) (inr j) rec = rec k j
-
-  pub one-of-item : (x y : Leaf) (ls : List (Item R)) → Ascending 0 ls → itemOf x ≡ itemOf y → 0 < count x (ring h ls)
-      → 0 < count y (ring h ls) → x ≡ y
-  one-of-item x y [] g e m n = absurd (omega (arith, count-nil x))
-  one-of-item (points A B w) (points A′ B′ w′) (item a r ∷ l) g e m n =
-      let n′ : 0 < count (points A B′ w′) (chainOf h a r l a) = rw e n in
-      let q = first-chain A B B′ w w′ a r l a (g .1) m n′ in
-      cc
-
-  pub one-to-item : (x y : Leaf) (ls : List (Item R)) → Ascending 0 ls → nextOf x ≡ nextOf y → 0 < count x (ring h ls)
-      → 0 < count y (ring h ls) → x ≡ y
-  one-to-item x y [] g e m n = absurd (omega (arith, count-nil x))
-  one-to-item (points A B w) (points A′ B′ w′) (item a r ∷ l) g e m n =
-      let n′ : 0 < count (points A′ B w′) (chainOf h a r l a) = rw e n in
-      let q = second-chain A A′ B w w′ a r l a (omega arith) (g .1) m n′ in
-      cc

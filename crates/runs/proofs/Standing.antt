@@ -17,7 +17,7 @@ use Rattle.runs.specs.Ways.{itemOf, nextOf, hashIn, isOf, has, found, wa
 use Rattle.runs.specs.Honest.{recordOf}
 use Rattle.runs.proofs.Widths.{Small}
 use Rattle.runs.proofs.Parts.{IsDigest}
-use Rattle.runs.proofs.Places.{rise-plug, has-it, found-passes, found-occurs, located}
+use Rattle.runs.proofs.Places.{rise-plug, has-it, located}
 use Rattle.runs.proofs.Rings.{leaf-held, leaf-next}
 use Rattle.runs.proofs.Sizes.{record-is, AllDecent}
 
@@ -57,19 +57,20 @@ module _ (D : List ℕ → Dig) (DD : (l : List ℕ) → IsDigest (D l)) (w : Wo
   pub spotted : (p : Leaf → Bool) → has p T ≡ true → Spotted p
   spotted p h =
       let x = found p T in
-      let m : 0 < count x (ring (recordHash D) (w .items)) = omega (arith, g .holds x, found-occurs p T h) in
+      let at = located p T h in
+      let m : 0 < count x (ring (recordHash D) (w .items)) = omega (arith, g .holds x, at .occurs) in
       let i = leaf-held (recordHash D) x (w .items) m in
       let n = leaf-next (recordHash D) x (w .items) m in
       let k = g .decent (nextOf x) (n .0) (n .1) in
       record {
-        passes = found-passes p T h;
+        passes = at .passes;
         in-ring = m;
         held = i .0;
         listed = i .1;
         hash-is = i .2;
         next-positive = k .positive;
         next-small = k .small;
-        to-root = rise-plug D (wayTo p T) (tip x) ∙ ap (hashOf D) (located p T h) ∙ g .root;
+        to-root = rise-plug D (wayTo p T) (tip x) ∙ ap (hashOf D) (at .under-way) ∙ g .root;
       }
 
   -- the leaf of a listed item
