@@ -8,7 +8,7 @@ use Prim.Native.Nat.{ℕ, _<_}
 use native.Mathlib.Omega.{arith}
 use borrow.Author.Tests.{eq-eqb}
 use lib.ListN.{length}
-use Rattle.seqs.specs.Choose.{either-yes}
+use Rattle.seqs.specs.Choose.{either-yes, _and_}
 use Rattle.paper.specs.declared.Record.{Record}
 use Rattle.paper.specs.declared.Registers.{Registers}
 use Rattle.paper.specs.Strings.{Dig, nought, v1, u1, Memo, enc, memo, digest, recordHash, H}
@@ -36,7 +36,7 @@ use Rattle.runs.proofs.Parts.{IsDigest}
 use Rattle.runs.proofs.Frames.{Sendable}
 use Rattle.runs.proofs.Climbs.{rise-digest}
 use Rattle.runs.proofs.Sizes.{record-is, Decent}
-use Rattle.runs.proofs.Fed.{at, run, Fair, told-is, fair-one, lands, note-fits, Got, then, Brings, after-got}
+use Rattle.runs.proofs.Fed.{at, run, told-is, note-fits, Got, then, Brings, after-got, brings-one}
 use Rattle.runs.proofs.Reach.{is-open, one-place, witness-line}
 use Rattle.runs.proofs.Adopts.{not-zero, at-root}
 use Rattle.runs.proofs.Standing.{Ground, spot-by, spotted, item-digest}
@@ -80,28 +80,16 @@ module _ (D : List ℕ → Dig) (DD : (l : List ℕ) → IsDigest (D l)) (w : Wo
   -- ── what a question comes to ──
 
   pub record Answers (q : ℕ) (qs : List Request) : Type 0 where
-    pub fair : Fair D w qs
-    pub registers-are : run D w qs .registers ≡ s
-    pub items-are : run D w qs .items ≡ w .items
-    pub changed-are : run D w qs .changed ≡ w .changed
+    pub brings : Brings D w qs s (w .items) (w .changed)
     pub reply : TrueReply D q (w .items) (lastReply D w (turnsOf qs))
 
   -- behind lines that change nothing
-  answers-last : {a : List Request} {t : Memo} (q : ℕ) (h : Got D w a t) (p : Request) (ok : Sendable p)
-      (n : NoneFails (needs D s p))
-      → Fair D (at w (h .formed) (h .book)) (p ∷ []) → run D (at w (h .formed) (h .book)) (p ∷ []) .registers ≡ s
-      → run D (at w (h .formed) (h .book)) (p ∷ []) .items ≡ w .items
-      → run D (at w (h .formed) (h .book)) (p ∷ []) .changed ≡ w .changed
+  answers-last : {a : List Request} {t : Memo} (q : ℕ) (h : Got D w a t) (p : Request)
+      → Brings D (at w (h .formed) (h .book)) (p ∷ []) s (w .items) (w .changed)
       → TrueReply D q (w .items) (toldAt D (at w (h .formed) (h .book)) (turnOf p) .says) → Answers q (a ++ (p ∷ []))
-  answers-last {a} q h p ok n f e₁ e₂ e₃ t =
-      let b : Brings D (at w (h .formed) (h .book)) (p ∷ []) s (w .items) (w .changed) =
-      record { fair = f; registers-are = e₁; items-are = e₂; changed-are = e₃ } in
-      let c = after-got D h b in
+  answers-last {a} q h p b t =
       record {
-        fair = c .fair;
-        registers-are = c .registers-are;
-        items-are = c .items-are;
-        changed-are = c .changed-are;
+        brings = after-got D h b;
         reply =
             subst (TrueReply D q (w .items))
             (sym (last-is D w a p ∙ ap (λ (v : World). toldAt D v (turnOf p) .says) (h .ends))) t;
@@ -131,16 +119,9 @@ module _ (D : List ℕ → Dig) (DD : (l : List ℕ) → IsDigest (D l)) (w : Wo
         let v = at w (h .formed) (h .book) in
         let ok : Sendable a =
         (small, d .small, t .next-small, d .small-record, (hy, (DD (enc (memo (v1 x y) (s .secret))), tt))) in
-        let asked = not-zero q positive in
-        let numbered = not-zero A (d .positive) in
-        let next-numbered = not-zero A′ (t .next-positive) in
-        let fits = note-fits D (s .secret) (v1 x y) [] in
-        let is-root = at-root y (s .root) e in
-        let n : NoneFails (needs D s a) = (
-          is-open D DD w (g .opened),
-          (asked, (numbered, (next-numbered, (d .sound, (rw (t .passes) refl, (fits, (is-root, tt))))))),
-        ) in
-        let end = lands D v a ok n in
+        let n : NoneFails (needs D s a) =
+        is-open D DD w (g .opened) and not-zero q positive and not-zero A (d .positive) and not-zero A′ (t .next-positive)
+        and d .sound and rw (t .passes) refl and note-fits D (s .secret) (v1 x y) [] and at-root y (s .root) e and tt in
         let on : 0 < count (points A A′ (recordHash D r)) (ring (recordHash D) (w .items)) =
         subst (λ (u : Leaf). 0 < count u (ring (recordHash D) (w .items)))
         (at-z z (recordHash D r) (ap (recordHash D) k ∙ t .hash-is)) (t .in-ring) in
@@ -152,8 +133,7 @@ module _ (D : List ℕ → Dig) (DD : (l : List ℕ) → IsDigest (D l)) (w : Wo
         ) in
         subst (Answers q)
         (append-assoc (onePlace D s p (record { was = x; becomes = x })) (Q.witness x y (note D s (u1 x y x y)) ∷ []) (a ∷ []))
-        (answers-last q h a ok n (fair-one D v a ok n (h .got, tt) [] tt) (ap (λ (u : World). u .registers) end)
-        (ap (λ (u : World). u .items) end) (ap (λ (u : World). u .changed) end)
+        (answers-last q h a (brings-one D v a ok n (h .got, tt))
         (finding (findingOf q A A′ r) true-of (ap (λ (u : Told). u .says) (told-is D v a ok n))))
       where
         at-z : (z : Leaf) (v : Dig) → v ≡ hashIn z → z ≡ points (itemOf z) (nextOf z) v
@@ -165,12 +145,8 @@ module _ (D : List ℕ → Dig) (DD : (l : List ℕ) → IsDigest (D l)) (w : Wo
         let empty-root : nought ≡ s .root = sym (none-hash D T (λ x. g .holds x ∙ rw e (count-nil x))) ∙ g .root in
         let n : NoneFails (needs D s a) =
         (is-open D DD w (g .opened), (not-zero q positive, (at-root nought (s .root) empty-root, tt))) in
-        let end = lands D w a small n in
         record {
-          fair = fair-one D w a small n tt [] tt;
-          registers-are = ap (λ (u : World). u .registers) end;
-          items-are = ap (λ (u : World). u .items) end;
-          changed-are = ap (λ (u : World). u .changed) end;
+          brings = brings-one D w a small n tt;
           reply = nothing-listed e (ap (λ (u : Told). u .says) (told-is D w a small n));
         }
 

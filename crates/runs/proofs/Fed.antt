@@ -14,7 +14,7 @@ use Rattle.paper.specs.Refusals.{replyRoom, noneFits, needs, passed, judge}
 use Rattle.paper.specs.Answers.{Change, Answer, issue, answer}
 use Rattle.paper.specs.Module.{Told, told}
 use Rattle.rings.specs.Changes.{Step}
-use Rattle.runs.specs.Run.{Items, last, Issue, standsFor, isIssued, meaning, World, toldAt, landed, next}
+use Rattle.runs.specs.Run.{Items, last, Issue, standsFor, isIssued, meaning, World, replayed, counted, toldAt, landed, next}
 use Rattle.runs.specs.Endings.{carried}
 use Rattle.runs.specs.Frames.{written, frameOf, turnOf, turnsOf}
 use Rattle.runs.specs.Honest.{note}
@@ -162,6 +162,12 @@ module _ (D : List ℕ → Dig) where
     pub items-are : run w qs .items ≡ l
     pub changed-are : run w qs .changed ≡ n
 
+  -- the same lines and registers, otherwise written
+  pub brings-also : {w : World} {qs qs′ : List Request} {s′ s″ : Registers} {l : Items} {n : ℕ} → qs ≡ qs′ → s′ ≡ s″
+      → Brings w qs s′ l n → Brings w qs′ s″ l n
+  brings-also {w} {qs} {qs′} {s′} {s″} {l} {n} e f b =
+      subst (λ (x : Registers). Brings w qs′ x l n) f (subst (λ (x : List Request). Brings w x s′ l n) e b)
+
   pub after-got : {w : World} {a b : List Request} {t : Memo} {s′ : Registers} {l : Items} {n : ℕ} (g : Got w a t)
       → Brings (at w (g .formed) (g .book)) b s′ l n → Brings w (a ++ b) s′ l n
   after-got {w} {a} {b} g h =
@@ -171,4 +177,17 @@ module _ (D : List ℕ → Dig) where
         registers-are = ap (λ (v : World). v .registers) e ∙ h .registers-are;
         items-are = ap (λ (v : World). v .items) e ∙ h .items-are;
         changed-are = ap (λ (v : World). v .changed) e ∙ h .changed-are;
+      }
+
+  -- one line
+  pub brings-one : (w : World) (q : Request) → Sendable q → NoneFails (needs D (w .registers) q) → AllIssued (carried q) (w .book)
+      → (let a = answer D (w .registers) q in
+      Brings w (q ∷ []) (a .after) (replayed D w (a .effect)) (counted D w (a .effect)))
+  brings-one w q ok n i =
+      let end = lands w q ok n in
+      record {
+        fair = fair-one w q ok n i [] tt;
+        registers-are = ap (λ (v : World). v .registers) end;
+        items-are = ap (λ (v : World). v .items) end;
+        changed-are = ap (λ (v : World). v .changed) end;
       }

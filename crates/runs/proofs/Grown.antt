@@ -10,7 +10,7 @@ use Rattle.seqs.specs.Choose.{pick}
 use Rattle.paper.specs.declared.Record.{Record}
 use Rattle.paper.specs.Strings.{Dig, nought, recordHash}
 use Rattle.paper.specs.Refusals.{clearedRecord}
-use Rattle.rings.specs.Trees.{Leaf, points, Tree, empty, tip, branch, leaves, hashOf, one, count, Permuted}
+use Rattle.rings.specs.Trees.{Leaf, points, Tree, empty, tip, branch, leaves, one, count, Permuted}
 use Rattle.rings.specs.Lists.{Item, item, Listed, Unlisted, insert, remove, putRecord, ring}
 use Rattle.rings.proofs.Counting.{count-nil, count-append, count-only}
 use Rattle.rings.proofs.Gaps.{gap-holds}
@@ -21,10 +21,9 @@ use Rattle.runs.specs.Wishes.{IsListed}
 use Rattle.runs.specs.Ways.{itemOf, nextOf, hashIn, isOf, leadsTo, gapHolds, has, found, wayTo, Fork, forkOf, leftOne, rightOne, regrown, replacing, replacingTwo}
 use Rattle.runs.specs.Outcomes.{treeWith, treeWithout, treeSwapped, treeRewritten}
 use Rattle.runs.proofs.Parts.{IsDigest}
-use Rattle.runs.proofs.Places.{rise-plug, located, Forks, forked, around, count-plug, count-two, regrown-one, regrown-two}
-use Rattle.runs.proofs.Standing.{Ground, spotted, of-item}
-use Rattle.runs.proofs.SetClear.{rewrittenRoot}
-use Rattle.runs.proofs.Moves.{once, gap-found}
+use Rattle.runs.proofs.Places.{located, Forks, forked, around, count-plug, count-two, regrown-one, regrown-two}
+use Rattle.runs.proofs.Standing.{Ground, once, spotted, of-item}
+use Rattle.runs.proofs.Moves.{gap-found}
 use Rattle.runs.proofs.Removes.{no-record-hash, Linked, linked-in, other-leaf, fork-of}
 
 leaf-is : (x : Leaf) (A B : ℕ) (v : Dig) → A ≡ itemOf x → B ≡ nextOf x → v ≡ hashIn x → x ≡ points A B v
@@ -67,14 +66,6 @@ module _ (D : List ℕ → Dig) (DD : (l : List ℕ) → IsDigest (D l)) (w : Wo
       tips false = omega arith
 
   -- ── set, clear ──
-
-  pub rewritten-hash : (A : ℕ) (r new : Record) → Listed A r (w .items)
-      → rewrittenRoot D DD w T g A new ≡ hashOf D (treeRewritten D A new T)
-  rewritten-hash A r new m =
-      let x = found (isOf A) T in
-      let X = tip (points A (nextOf x) (recordHash D new)) in
-      let at = located (isOf A) T (of-item D DD w T g A r m) .under-way in
-      rise-plug D (wayTo (isOf A) T) X ∙ ap (hashOf D) (sym (regrown-one x X (wayTo (isOf A) T) T at (once D DD w T g x)))
 
   pub rewritten-holds : (A : ℕ) (r new : Record) → Listed A r (w .items)
       → Permuted (leaves (treeRewritten D A new T)) (ring (recordHash D) (putRecord A new (w .items)))

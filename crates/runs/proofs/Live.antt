@@ -11,19 +11,17 @@ use Rattle.sha256.specs.Hash.{sha256}
 use Rattle.sha256.proofs.Digests.{sha256-length}
 use Rattle.paper.specs.declared.Registers.{Registers}
 use Rattle.paper.specs.Strings.{Dig, recordHash}
-use Rattle.paper.specs.Requests.{Request}
 use Rattle.paper.specs.Refusals.{top, nextRecord, clearedRecord}
-use Rattle.paper.specs.Answers.{raised}
 use Rattle.rings.specs.Trees.{Tree, leaves, hashOf, Permuted}
 use Rattle.rings.specs.Lists.{Ascending, ring}
 use Rattle.rings.proofs.Items.{insert-ascending, remove-ascending, put-ascending}
 use Rattle.runs.specs.Run.{Items, World, after}
 use Rattle.runs.specs.Endings.{Ending}
-use Rattle.runs.specs.Safety.{AllFair, Stands}
+use Rattle.runs.specs.Safety.{AllFair}
 use Rattle.runs.specs.Wishes.{Wish, insertItem, removeItem, swapPlaces, setRecord, clearRecord, askAbout, Legal}
-use Rattle.runs.specs.Honest.{askLines}
-use Rattle.runs.specs.Outcomes.{treeWith, treeWithout, treeSwapped, treeRewritten}
-use Rattle.runs.specs.Liveness.{latestFirst, Granted, Live, LiveOrEnded, Liveness}
+use Rattle.runs.specs.Honest.{honestLines}
+use Rattle.runs.specs.Outcomes.{itemsAfter, registersAfter, treeAfter}
+use Rattle.runs.specs.Liveness.{latestFirst, lastReply, Answered, turnsFor, Granted, Live, LiveOrEnded, Liveness}
 use Rattle.runs.proofs.Parts.{IsDigest, bytes-append}
 use Rattle.runs.proofs.Sizes.{decent}
 use Rattle.runs.proofs.Safe.{Core}
@@ -36,7 +34,7 @@ use Rattle.runs.proofs.SetClear.{set-brings, clear-brings}
 use Rattle.runs.proofs.Asks.{ask-answers}
 use Rattle.runs.proofs.Moves.{swap-brings, insert-brings}
 use Rattle.runs.proofs.Removes.{remove-brings}
-use Rattle.runs.proofs.Grown.{rewritten-hash, rewritten-holds, swapped-holds, with-holds, without-holds}
+use Rattle.runs.proofs.Grown.{rewritten-holds, swapped-holds, with-holds, without-holds}
 
 module _ (D : List ℕ → Dig) (D32 : (l : List ℕ) → length (D l) ≡ 32) (DB : (l : List ℕ) → Bytes (D l)) where
   digests : (l : List ℕ) → IsDigest (D l)
@@ -46,104 +44,54 @@ module _ (D : List ℕ → Dig) (D32 : (l : List ℕ) → length (D l) ≡ 32) (
     abbrev s : Registers
     s = w .registers
 
-    -- a tree that stands for what some lines bring about
-    stands-after : {qs : List Request} {s′ : Registers} {l : Items} {n : ℕ} (U : Tree) → Brings D w qs s′ l n
-        → hashOf D U ≡ s′ .root
-        → Ascending 0 l → Permuted (leaves U) (ring (recordHash D) l) → s′ .counter .0 ≡ n → Stands D (Fed.run D w qs)
-    stands-after U b root up holds counter =
+    -- Lines that bring about the list and the registers wanted grant a wish, where the tree wanted has that list's ring.
+    grants : (x : Wish) (n : ℕ)
+        → (let U = treeAfter D s T (w .items) x in
+        let l = itemsAfter s (w .items) x in
+        let s′ = registersAfter s (hashOf D U) x in
+        Brings D w (honestLines D s T (w .items) x) s′ l n → hashOf D U ≡ s′ .root → s′ .counter .0 ≡ n → Ascending 0 l
+        → Permuted (leaves U) (ring (recordHash D) l) → Answered D x (w .items) (lastReply D w (turnsFor D w T x)) → Granted D w T x)
+    grants x n b root counter up holds answered =
+        let U = treeAfter D s T (w .items) x in
         record {
-          tree = U;
-          root = root ∙ sym (ap (λ (r : Registers). r .root) (b .registers-are));
-          ascending = subst (Ascending 0) (sym (b .items-are)) up;
-          holds = subst (λ (l : Items). Permuted (leaves U) (ring (recordHash D) l)) (sym (b .items-are)) holds;
-          counter = ap (λ (r : Registers). r .counter .0) (b .registers-are) ∙ counter ∙ sym (b .changed-are);
+          honest = b .fair;
+          items = b .items-are;
+          registers = b .registers-are;
+          stands = record {
+            tree = U;
+            root = root ∙ sym (ap (λ (r : Registers). r .root) (b .registers-are));
+            ascending = subst (Ascending 0) (sym (b .items-are)) up;
+            holds = subst (λ (l : Items). Permuted (leaves U) (ring (recordHash D) l)) (sym (b .items-are)) holds;
+            counter = ap (λ (r : Registers). r .counter .0) (b .registers-are) ∙ counter ∙ sym (b .changed-are);
+          };
+          tree = refl;
+          answered = answered;
         }
 
     -- each kind of wish
-    pub granted : (x : Wish) → Legal (w .items) x → Granted D w T x
-    unfolding stands-after
+    granted : (x : Wish) → Legal (w .items) x → Granted D w T x
     granted (insertItem A) h =
-        let b = insert-brings D digests w T g A (h .1) (h .0) (h .2) in
-        let U = treeWith D A T (w .items) in
-        record {
-          honest = b .fair;
-          items = b .items-are;
-          registers = b .registers-are;
-          stands =
-              stands-after U b refl (insert-ascending 0 A clearedRecord (w .items) (h .0) (h .2) (g .ascending))
-              (with-holds D digests w T g A (h .0) (h .2)) (g .counter);
-          tree = refl;
-          answered = tt;
-        }
+        grants (insertItem A) (w .changed) (insert-brings D digests w T g A (h .1) (h .0) (h .2)) refl (g .counter)
+        (insert-ascending 0 A clearedRecord (w .items) (h .0) (h .2) (g .ascending)) (with-holds D digests w T g A (h .0) (h .2)) tt
     granted (removeItem A) h =
-        let b = remove-brings D digests w T g A h in
-        let U = treeWithout D A T (w .items) in
-        record {
-          honest = b .fair;
-          items = b .items-are;
-          registers = b .registers-are;
-          stands =
-              stands-after U b refl (remove-ascending 0 A (w .items) (g .ascending)) (without-holds D digests w T g A h)
-              (g .counter);
-          tree = refl;
-          answered = tt;
-        }
+        grants (removeItem A) (w .changed) (remove-brings D digests w T g A h) refl (g .counter)
+        (remove-ascending 0 A (w .items) (g .ascending)) (without-holds D digests w T g A h) tt
     granted (swapPlaces A B) h =
-        let b = swap-brings D digests w T g A B (h .0) (h .1) (h .2) in
-        let U = treeSwapped D A B T in
-        record {
-          honest = b .fair;
-          items = b .items-are;
-          registers = b .registers-are;
-          stands = stands-after U b refl (g .ascending) (swapped-holds D digests w T g A B (h .0) (h .1) (h .2)) (g .counter);
-          tree = refl;
-          answered = tt;
-        }
+        grants (swapPlaces A B) (w .changed) (swap-brings D digests w T g A B (h .0) (h .1) (h .2)) refl (g .counter)
+        (g .ascending) (swapped-holds D digests w T g A B (h .0) (h .1) (h .2)) tt
     granted (setRecord A v2 v3 v4) h =
         let new = nextRecord s v2 v3 v4 in
-        let b = set-brings D digests w T g A v2 v3 v4 (h .0 .0) (h .0 .1) (h .1) (h .2) (h .3) below in
-        let e = rewritten-hash D digests w T g A (h .0 .0) new (h .0 .1) in
-        let U = treeRewritten D A new T in
-        record {
-          honest = b .fair;
-          items = b .items-are;
-          registers = b .registers-are ∙ ap (raised s) e;
-          stands =
-              stands-after U b (sym e) (put-ascending 0 A new (w .items) (g .ascending))
-              (rewritten-holds D digests w T g A (h .0 .0) new (h .0 .1)) (ap (λ (n : ℕ). n + 1) (g .counter));
-          tree = refl;
-          answered = tt;
-        }
+        grants (setRecord A v2 v3 v4) (w .changed + 1)
+        (set-brings D digests w T g A v2 v3 v4 (h .0 .0) (h .0 .1) (h .1) (h .2) (h .3) below) refl
+        (ap (λ (n : ℕ). n + 1) (g .counter)) (put-ascending 0 A new (w .items) (g .ascending))
+        (rewritten-holds D digests w T g A (h .0 .0) new (h .0 .1)) tt
     granted (clearRecord A) h =
-        let b = clear-brings D digests w T g A (h .0) (h .1) (h .2) below in
-        let e = rewritten-hash D digests w T g A (h .0) clearedRecord (h .1) in
-        let U = treeRewritten D A clearedRecord T in
-        record {
-          honest = b .fair;
-          items = b .items-are;
-          registers = b .registers-are ∙ ap (raised s) e;
-          stands =
-              stands-after U b (sym e) (put-ascending 0 A clearedRecord (w .items) (g .ascending))
-              (rewritten-holds D digests w T g A (h .0) clearedRecord (h .1)) (ap (λ (n : ℕ). n + 1) (g .counter));
-          tree = refl;
-          answered = tt;
-        }
+        grants (clearRecord A) (w .changed + 1) (clear-brings D digests w T g A (h .0) (h .1) (h .2) below) refl
+        (ap (λ (n : ℕ). n + 1) (g .counter)) (put-ascending 0 A clearedRecord (w .items) (g .ascending))
+        (rewritten-holds D digests w T g A (h .0) clearedRecord (h .1)) tt
     granted (askAbout q) h =
         let a = ask-answers D digests w T g D32 q (h .1) (h .0) in
-        let b : Brings D w (askLines D s q T (w .items)) s (w .items) (w .changed) = record {
-          fair = a .fair;
-          registers-are = a .registers-are;
-          items-are = a .items-are;
-          changed-are = a .changed-are;
-        } in
-        record {
-          honest = a .fair;
-          items = a .items-are;
-          registers = a .registers-are;
-          stands = stands-after T b (g .root) (g .ascending) (g .holds) (g .counter);
-          tree = refl;
-          answered = a .reply;
-        }
+        grants (askAbout q) (w .changed) (a .brings) (g .root) (g .counter) (g .ascending) (g .holds) (a .reply)
 
   live-or-ended : LiveOrEnded D
   live-or-ended k ts opened below = by-run (run D D32 k ts)

@@ -3,19 +3,17 @@ use mathlib.Core.Path.{_≡_, refl, sym, ap, ap₂, subst, _∙_}
 use mathlib.Core.Bool.{Bool, true, false}
 use mathlib.Core.List.{List, [], _∷_, _++_, append-assoc}
 use mathlib.Core.Logic.{_≢_}
-use Prim.Native.Nat.{ℕ, _≤_, _<_}
-use native.Mathlib.Omega.{arith}
+use Prim.Native.Nat.{ℕ, _<_}
 use borrow.Author.Tests.{eqb-true}
 use Rattle.seqs.specs.Choose.{pick}
 use Rattle.paper.specs.declared.Record.{Record}
 use Rattle.paper.specs.declared.Registers.{Registers}
 use Rattle.paper.specs.Strings.{Dig, nought, u2, leaf, enc, memo, digest, recordHash, H}
 use Rattle.paper.specs.Requests as Q
-use Rattle.paper.specs.Requests.{Request}
 use Rattle.paper.specs.Refusals.{clearedRecord, noneFits}
 use Rattle.paper.specs.Answers as Does
 use Rattle.paper.specs.Answers.{rooted}
-use Rattle.rings.specs.Trees.{Leaf, points, Tree, tip, branch, leaves, hashOf, count}
+use Rattle.rings.specs.Trees.{Leaf, points, Tree, tip, branch, hashOf}
 use Rattle.rings.specs.Lists.{Item, item, Unlisted, insert}
 use Rattle.rings.specs.Changes.{insertion, removal}
 use Rattle.rings.proofs.Counting.{count-nil}
@@ -30,12 +28,11 @@ use Rattle.runs.proofs.Widths.{Small}
 use Rattle.runs.proofs.Parts.{IsDigest}
 use Rattle.runs.proofs.Climbs.{record-digest, tree-digest, IsEdit, risen-two-is}
 use Rattle.runs.proofs.Places.{plug-two, rise-plug, rise-two, located, Forks, forked, regrown-one, regrown-two}
-use Rattle.runs.proofs.Rings.{ring-once}
-use Rattle.runs.proofs.Fed.{at, note-fits, Brings}
+use Rattle.runs.proofs.Fed.{at, note-fits, Brings, brings-also}
 use Rattle.runs.proofs.Reach.{is-open, two-places}
 use Rattle.runs.proofs.Adopts.{heads-line, heads-after, turn-last, adopt-last, alone-is, first-line, feet-are, without-is, place-lines}
 use Rattle.runs.proofs.Asks.{none-hash}
-use Rattle.runs.proofs.Standing.{Ground, leaf-digest, spot-by, spotted, of-item}
+use Rattle.runs.proofs.Standing.{Ground, leaf-digest, once, spot-by, spotted, of-item}
 
 module _ (D : List ℕ → Dig) (DD : (l : List ℕ) → IsDigest (D l)) (w : World) (T : Tree) (g : Ground D w T) where
   abbrev s : Registers
@@ -72,10 +69,6 @@ module _ (D : List ℕ → Dig) (DD : (l : List ℕ) → IsDigest (D l)) (w : Wo
       by-other : (c : Bool) → pick c (tip x) (tip y) ≡ tip (pick c x y)
       by-other true = refl
       by-other false = refl
-
-  -- every leaf of the tree occurs once
-  pub once : (v : Leaf) → count v (leaves T) ≤ 1
-  once v = omega (arith, g .holds v, ring-once (recordHash D) v (w .items) (g .ascending))
 
   -- ── swap ──
 
@@ -114,7 +107,7 @@ module _ (D : List ℕ → Dig) (DD : (l : List ℕ) → IsDigest (D l)) (w : Wo
       feet (λ u. u .was) f e (turned e) (tip x) (tip z) refl refl ∙ ap (hashOf D) (leaves-at f x z fork) ∙ g .root in
       let becomes-root : y .becomes ≡ hashOf D (treeSwapped D A B T) =
       feet (λ u. u .becomes) f e (turned e) (tip z) (tip x) refl refl
-      ∙ ap (hashOf D) (sym (regrown-two x (tip z) z (tip x) other f T fork (once x) (once z))) in
+      ∙ ap (hashOf D) (sym (regrown-two x (tip z) z (tip x) other f T fork (once D DD w T g x) (once D DD w T g z))) in
       let t = sayU2 a b y in
       let q = Q.swap (a .was) (b .was) (y .was) (y .becomes) (note D s t) in
       let u = two-places D DD w (g .opened) (w .formed) (w .book) f a b (h .0) (h .1) in
@@ -123,9 +116,7 @@ module _ (D : List ℕ → Dig) (DD : (l : List ℕ) → IsDigest (D l)) (w : Wo
       (h .0 .old, (h .1 .old, (hy .old, (hy .new, (DD (enc (memo t (s .secret))), tt)))))
       (is-open D DD w (g .opened), (fits-by-side (f .left) (f .right) (f .above) (f .crossed) e, tt)) (u .got, tt) refl) in
       let r = adopt-last D DD w (g .opened) (twoPlaces D s f a b ++ (q ∷ [])) y [] hy was-root k in
-      subst (λ (t : Dig). Brings D w (swapLines D s A B T) (rooted s t) (w .items) (w .changed)) becomes-root
-      (subst (λ (qs : List Request). Brings D w qs (rooted s (y .becomes)) (w .items) (w .changed))
-      (append-assoc (twoPlaces D s f a b) (q ∷ []) (takeOver D s y ∷ [])) r)
+      brings-also D (append-assoc (twoPlaces D s f a b) (q ∷ []) (takeOver D s y ∷ [])) (ap (rooted s) becomes-root) r
 
   -- ── insert ──
 
@@ -166,11 +157,9 @@ module _ (D : List ℕ → Dig) (DD : (l : List ℕ) → IsDigest (D l)) (w : Wo
       (record { old = hy .new; new = hy .old }) root k in
       let X = branch (tip (points B A ω)) (tip (points A B′ nought)) in
       let grown : y .was ≡ hashOf D (treeWith D A T (i ∷ l)) =
-      rise-plug D p X ∙ ap (hashOf D) (sym (regrown-one x X p T (located (gapHolds A) T have .under-way) (once x))) in
-      subst (λ (z : Dig). Brings D w (insertLines D s A T (i ∷ l)) (rooted s z) (insert A clearedRecord (w .items))
-      (w .changed)) grown
-      (subst (λ (qs : List Request). Brings D w qs (rooted s (y .was)) (insert A clearedRecord (w .items)) (w .changed))
-      (append-assoc (placed D s f B A B′ ω) (turnRound D s y ∷ []) (takeOver D s (turned y) ∷ [])) r)
+      rise-plug D p X ∙ ap (hashOf D) (sym (regrown-one x X p T (located (gapHolds A) T have .under-way) (once D DD w T g x))) in
+      brings-also D (append-assoc (placed D s f B A B′ ω) (turnRound D s y ∷ []) (takeOver D s (turned y) ∷ []))
+      (ap (rooted s) grown) r
 
   -- the leaf whose gap holds an unlisted number
   pub gap-found : (A a : ℕ) (r : Record) (l : Items) → 0 < A → Unlisted A (w .items) → w .items ≡ item a r ∷ l

@@ -31,11 +31,11 @@ use Rattle.runs.proofs.Parts.{IsDigest}
 use Rattle.runs.proofs.Climbs.{record-digest, tree-digest}
 use Rattle.runs.proofs.Places.{Forks, forked, regrown-two}
 use Rattle.runs.proofs.Rings.{one-of-item, one-to-item}
-use Rattle.runs.proofs.Fed.{Brings}
+use Rattle.runs.proofs.Fed.{Brings, brings-also}
 use Rattle.runs.proofs.Adopts.{turn-last, adopt-last, alone-is, first-line, without-is, place-lines}
 use Rattle.runs.proofs.Asks.{none-hash}
-use Rattle.runs.proofs.Standing.{Ground, leaf-digest, spot-by, spotted}
-use Rattle.runs.proofs.Moves.{feet, leaves-at, once}
+use Rattle.runs.proofs.Standing.{Ground, leaf-digest, once, spot-by, spotted}
+use Rattle.runs.proofs.Moves.{feet, leaves-at}
 
 -- ── a tree of one leaf ──
 
@@ -198,7 +198,7 @@ module _ (D : List ℕ → Dig) (DD : (l : List ℕ) → IsDigest (D l)) (w : Wo
       (sym (regrown-two x X z empty (other-leaf A k) f T (fork-of A k) (once D DD w T g x) (once D DD w T g z))) in
       let h = place-lines D DD w (g .opened) f B A B′ ω (dB .small) (dA .small) (tz .next-small) hω (dB .positive) (dA .positive)
       (tz .next-positive) (k .gap) in
-      subst (λ (v : Dig). Brings D w (removeLines D s A T (i ∷ j ∷ l)) (rooted s v) (remove A (w .items)) (w .changed)) shrunk
+      brings-also D refl (ap (rooted s) shrunk)
       (adopt-last D DD w (g .opened) (placed D s f B A B′ ω) y (removal A ∷ []) (without-is D DD w (g .opened) f B A B′ ω) root h)
 
   pub remove-brings : (A : ℕ) → Listed A clearedRecord (w .items)

@@ -2,7 +2,7 @@
 use mathlib.Core.Path.{_≡_, refl, sym, ap, subst, _∙_}
 use mathlib.Core.Bool.{Bool, true}
 use mathlib.Core.List.{List}
-use Prim.Native.Nat.{ℕ, _<_}
+use Prim.Native.Nat.{ℕ, _≤_, _<_}
 use native.Mathlib.Omega.{arith}
 use borrow.Author.Tests.{eq-eqb}
 use Rattle.paper.specs.declared.Record.{Record}
@@ -18,7 +18,7 @@ use Rattle.runs.specs.Honest.{recordOf}
 use Rattle.runs.proofs.Widths.{Small}
 use Rattle.runs.proofs.Parts.{IsDigest}
 use Rattle.runs.proofs.Places.{rise-plug, has-it, located}
-use Rattle.runs.proofs.Rings.{leaf-held, leaf-next}
+use Rattle.runs.proofs.Rings.{ring-once, leaf-held, leaf-next}
 use Rattle.runs.proofs.Sizes.{record-is, AllDecent}
 
 module _ (D : List ℕ → Dig) where
@@ -49,6 +49,10 @@ module _ (D : List ℕ → Dig) (DD : (l : List ℕ) → IsDigest (D l)) (w : Wo
     pub next-positive : 0 < nextOf (found p T)
     pub next-small : Small (nextOf (found p T))
     pub to-root : rise D (wayTo p T) (hashOf D (tip (found p T))) ≡ s .root
+
+  -- every leaf of the tree occurs once
+  pub once : (v : Leaf) → count v (leaves T) ≤ 1
+  once v = omega (arith, g .holds v, ring-once (recordHash D) v (w .items) (g .ascending))
 
   -- where some leaf of the ring passes
   pub spot-by : (p : Leaf → Bool) (x : Leaf) → p x ≡ true → 0 < count x (ring (recordHash D) (w .items)) → has p T ≡ true
