@@ -47,26 +47,26 @@ module _ (D : List ℕ → Dig) (D32 : (l : List ℕ) → length (D l) ≡ 32) (
       (T.pair digestD u v (node-in digestD F y z hy hz i) (node-in digestD F y′ z′ hy′ hz′ i′))
 
   -- 08 place, with its memorandum in either order
-  placed : (A A′ B′ : ℕ) (ω : Dig) → inGap A′ A B′ ≡ true → Within (placeForms A A′ B′ ω) F → R.Placed digestD F A A′ B′ ω
-  placed A A′ B′ ω k i =
-      record {
-        gap = gap-holds A′ A B′ k;
-        to-it = i _ (List·Memᴰ·head refl);
-        from-it = i _ (List·Memᴰ·tail (List·Memᴰ·tail (List·Memᴰ·head refl)));
-        without = i _ (List·Memᴰ·tail (List·Memᴰ·head refl));
-      }
-
   pub place : {y y′ : Dig} (A A′ B′ : ℕ) (ω : Dig) → inGap A′ A B′ ≡ true → Within (placeForms A A′ B′ ω) F
       → MeansU2 digestD F (digestD (leaf A A′ ω)) (digestD (leaf A′ B′ nought)) y (digestD (leaf A B′ ω)) nought y′
+      ⊎ MeansU2 digestD F (digestD (leaf A′ B′ nought)) (digestD (leaf A A′ ω)) y nought (digestD (leaf A B′ ω)) y′
       → MeansEI digestD F y y′ (removal A′ ∷ [])
-  place A A′ B′ ω k i u =
-      R.place digestD A A′ B′ ω (placed A A′ B′ ω k i) u
+  place {y} {y′} A A′ B′ ω k i u = by-order u
+    where
+      formed : R.Placed digestD F A A′ B′ ω
+      formed =
+          record {
+            gap = gap-holds A′ A B′ k;
+            to-it = i _ (List·Memᴰ·head refl);
+            from-it = i _ (List·Memᴰ·tail (List·Memᴰ·tail (List·Memᴰ·head refl)));
+            without = i _ (List·Memᴰ·tail (List·Memᴰ·head refl));
+          }
 
-  pub place-flipped : {y y′ : Dig} (A A′ B′ : ℕ) (ω : Dig) → inGap A′ A B′ ≡ true → Within (placeForms A A′ B′ ω) F
-      → MeansU2 digestD F (digestD (leaf A′ B′ nought)) (digestD (leaf A A′ ω)) y nought (digestD (leaf A B′ ω)) y′
-      → MeansEI digestD F y y′ (removal A′ ∷ [])
-  place-flipped A A′ B′ ω k i u =
-      R.place-flipped digestD A A′ B′ ω (placed A A′ B′ ω k i) u
+      by-order : MeansU2 digestD F (digestD (leaf A A′ ω)) (digestD (leaf A′ B′ nought)) y (digestD (leaf A B′ ω)) nought y′
+          ⊎ MeansU2 digestD F (digestD (leaf A′ B′ nought)) (digestD (leaf A A′ ω)) y nought (digestD (leaf A B′ ω)) y′
+          → MeansEI digestD F y y′ (removal A′ ∷ [])
+      by-order (inl u) = R.place digestD A A′ B′ ω formed u
+      by-order (inr u) = R.place-flipped digestD A A′ B′ ω formed u
 
   -- 0b adopt
   pub adopt : {y y′ : Dig} {c : List Step} (T : Tree) (ls : List (Item Record)) → MeansEI digestD F y y′ c → hashOf D T ≡ y

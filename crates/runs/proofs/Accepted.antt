@@ -15,6 +15,11 @@ use Rattle.paper.specs.Module.{Told, told}
 use Rattle.paper.proofs.Early.{among, numbered}
 use Rattle.paper.proofs.Verdicts.{firstOf, number-is}
 
+-- the test of a check that does not fail
+pub opposite-false : (b : Bool) → opposite b ≡ false → b ≡ true
+opposite-false true h = refl
+opposite-false false h = absurd (true≢false h)
+
 -- none of some checks fails
 abbrev pub NoneFails : List Check → Type 0
 NoneFails [] = Unit {0}

@@ -4,7 +4,7 @@ pub mod Also
 pub mod Asks
 pub mod Book
 pub mod Climbs
-pub mod Effects
+pub mod Carried
 pub mod Fed
 pub mod Formed
 pub mod Frames

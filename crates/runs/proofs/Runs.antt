@@ -31,7 +31,7 @@ use Rattle.runs.proofs.Accepted.{none-fails, formedAll, judge-passed, a
 use Rattle.runs.proofs.Lines.{Sorted, early, on-time, sorted}
 use Rattle.runs.proofs.Widths.{Wide, wide}
 use Rattle.runs.proofs.Formed.{well-at}
-use Rattle.runs.proofs.Effects.{Given, Forgery}
+use Rattle.runs.proofs.Carried.{Forgery, Given}
 use Rattle.runs.proofs.Safe.{Core, kept-core, accepted}
 use Rattle.runs.proofs.Sides.{line-bytes, asked, side}
 
@@ -51,7 +51,7 @@ module _ (D : List ℕ → Dig) (D32 : (l : List ℕ) → length (D l) ≡ 32) w
 
   abbrev pub Out : Reading → World → Request → Told → Type 0
   Out by w q a =
-      (Fault (digest D) (a .formed ++ w .formed) ⊎ ((a .refusal ≡ 0) × Forgery D D32 w [] q))
+      (Fault (digest D) (a .formed ++ w .formed) ⊎ ((a .refusal ≡ 0) × Forgery D w q))
       ⊎ (Core D D32 (landed D by w a) × (a .refusal ≡ 0 → TrueAnswer D q (w .items)) × LegalEffect D w (a .effect))
 
   refused-out : (by : Reading) (w : World) (q : Request) (a : Told) → (a .refusal ≡ 0 → ⊥) → a .after ≡ w .registers
@@ -77,7 +77,7 @@ module _ (D : List ℕ → Dig) (D32 : (l : List ℕ) → length (D l) ≡ 32) w
     passes h = accepted-passed D s kind q late cs refl h
 
     given : (fs : List Str) → judge late [] cs ≡ passed fs → Wide q
-        → Given D D32 w ((answer D s q .forms ++ fs) ++ w .formed) q
+        → Given D w ((answer D s q .forms ++ fs) ++ w .formed) q
     given fs e h =
         let p = passes (ap (λ (v : Verdict). told D s kind q v .refusal) e) in
         let f : formedAll late [] cs ≡ fs = ap formedBy (sym (judge-passed late [] cs p) ∙ e) in
@@ -103,8 +103,7 @@ module _ (D : List ℕ → Dig) (D32 : (l : List ℕ) → length (D l) ≡ 32) w
             true≢false (ap isPassed (sym (judge-passed late [] cs p) ∙ e))
     by-verdict by (passed fs) e h c = landing (accepted D D32 by w kind fs c q (given fs e h))
       where
-        landing : (Fault (digest D) ((answer D s q .forms ++ fs) ++ w .formed) ⊎ Forgery D D32 w
-            ((answer D s q .forms ++ fs) ++ w .formed) q)
+        landing : (Fault (digest D) ((answer D s q .forms ++ fs) ++ w .formed) ⊎ Forgery D w q)
             ⊎ (Core D D32 (landed D by w (told D s kind q (passed fs))) × TrueAnswer D q (w .items) × LegalEffect D w
             (answer D s q .effect))
             → Out by w q (told D s kind q (passed fs))

@@ -2,36 +2,41 @@
 -- half).
 use mathlib.Core.Path.{_≡_, refl, sym, ap, subst, _∙_}
 use mathlib.Core.Bool.{Bool, true, false, true≢false}
-use mathlib.Core.List.{List, [], _∷_, _++_, List·Memᴰ, List·Memᴰ·head, Memᴰ·append-left, Memᴰ·append-right}
-use mathlib.Core.Logic.{_⊎_, inl, inr}
+use mathlib.Core.List.{List, [], _∷_, _++_, List·Memᴰ, List·Memᴰ·tail, Memᴰ·append-left, Memᴰ·append-right}
+use mathlib.Core.Logic.{inr}
 use Prim.Native.Nat.{ℕ, _+_}
 use native.Mathlib.Omega.{arith}
-use borrow.Author.Tests.{eqb-true, ne-eqb}
+use borrow.Author.Tests.{eqb-true, eqb-false, ne-eqb}
 use lib.Dec.{eqb}
 use lib.ListN.{length}
-use Rattle.seqs.specs.Choose.{pick, either}
+use Rattle.seqs.specs.Choose.{pick, either, opposite}
+use Rattle.seqs.specs.Bytes.{same, same-true}
 use Rattle.paper.specs.declared.Record.{Record}
 use Rattle.paper.specs.declared.Registers.{Registers}
-use Rattle.paper.specs.Strings.{Dig, Memo, Str, memo, digest, malformed, blank, recordForms, inGap}
+use Rattle.paper.specs.Strings.{Dig, nought, Memo, u1, v1, u2, ei, Str, leaf, memo, digest, malformed, blank, recordForms, inGap, parentForms, foldForms}
 use Rattle.paper.specs.Requests as Q
 use Rattle.paper.specs.Requests.{Request}
-use Rattle.paper.specs.Refusals.{clearedRecord, passed}
+use Rattle.paper.specs.Refusals.{Check, nextRecord, clearedRecord, placeForms, placeSays, noneFits, tried, leafOf, leafForms, changeForms, changeSays, needs, passed}
 use Rattle.paper.specs.Answers.{Change, none′, issues, changes, answer, findingOf}
 use Rattle.paper.specs.Module.{Told, told}
 use Rattle.paper.specs.declared.Finding.the-variants.{Recorded, Listed, Gap}
 use Rattle.rings.specs.Trees.{Tree, hashOf}
 use Rattle.rings.specs.Lists.{item}
-use Rattle.rings.proofs.Nodes.{_∈_, Within}
+use Rattle.rings.proofs.Nodes.{_∈_, Within, _>>=_}
 use Rattle.rings.proofs.Memos.{Means, StandsFor, stands-more}
 use Rattle.rings.proofs.Records.{Known, known-empty, known-recorded}
 use Rattle.rings.proofs.Bridge.{hash-is, known-by}
-use Rattle.rings.proofs.ListKinds as L
+use Rattle.rings.proofs.Paths.{path}
+use Rattle.rings.proofs.TreeKinds as T
+use Rattle.rings.proofs.RingKinds as R
 use Rattle.rings.proofs.InPaper as P
-use Rattle.runs.specs.Run.{Reading, Items, World, meaning, landed}
+use Rattle.runs.specs.Run.{Reading, Items, standsFor, meaning, World, landed}
+use Rattle.runs.specs.Endings.{carried}
 use Rattle.runs.specs.Safety.{TrueFinding, TrueAnswer, LegalEffect}
 use Rattle.runs.proofs.Book.{entered-none, Book, book-more, book-enter}
-use Rattle.runs.proofs.Effects as E
-use Rattle.runs.proofs.Effects.{Given, Or, opposite-false}
+use Rattle.runs.proofs.Accepted.{opposite-false}
+use Rattle.runs.proofs.Carried as C
+use Rattle.runs.proofs.Carried.{at0, at1, at2, at5, at6, Given, Or, or-fault}
 
 -- a well formed record with revision 0 is the empty one
 blank-empty : (r : Record) → blank r ≡ true → malformed r ≡ false → r ≡ clearedRecord
@@ -88,9 +93,15 @@ module _ (D : List ℕ → Dig) (D32 : (l : List ℕ) → length (D l) ≡ 32) w
 
   -- ── an accepted line ──
 
-  module _ (by : Reading) (w : World) (kind : ℕ) (fs : List Str) where
+  module _ (by : Reading) (w : World) (kind : ℕ) (fs : List Str) (v : Core w) where
     abbrev s : Registers
     s = w .registers
+
+    abbrev key : Dig
+    key = s .secret
+
+    abbrev dig : Str → Dig
+    dig = digest D
 
     abbrev a : Request → Told
     a q = told D s kind q (passed fs)
@@ -98,27 +109,34 @@ module _ (D : List ℕ → Dig) (D32 : (l : List ℕ) → length (D l) ≡ 32) w
     abbrev G : Request → List Str
     G q = a q .formed ++ w .formed
 
+    abbrev GivenTo : Request → Type 0
+    GivenTo q = Given D w (G q) q
+
     -- what it comes to
-    abbrev pub Comes : Request → Type 0
-    Comes q =
-        Or D D32 w (G q) q (Core (landed D by w (a q)) × TrueAnswer D q (w .items) × LegalEffect D w (a q .effect))
+    abbrev Comes : Request → Type 0
+    Comes q = Or D w (G q) q (Core (landed D by w (a q)) × TrueAnswer D q (w .items) × LegalEffect D w (a q .effect))
 
-    infixl 1 _>>=_
-    _>>=_ : {E A B : Type 0} → E ⊎ A → (A → E ⊎ B) → E ⊎ B
-    (inl e) >>= f = inl e
-    (inr a) >>= f = f a
+    backed : (q : Request) → Book D (G q) (w .book)
+    backed q = book-more D (w .book) (more (a q) w) (v .book)
 
-    module _ (v : Core w) where
-      backed : (q : Request) → Book D (G q) (w .book)
-      backed q = book-more D (w .book) (more (a q) w) (v .book)
+    standing : (q : Request) → StandsFor dig (G q) (v .tree) (w .items)
+    standing q = stands-more dig (more (a q) w) (v .stands)
 
-      standing : (q : Request) → StandsFor (digest D) (G q) (v .tree) (w .items)
-      standing q = stands-more (digest D) (more (a q) w) (v .stands)
+    -- the check that y is the root
+    at-root : (y : Dig) → opposite (same y (s .root)) ≡ false → hashOf D (v .tree) ≡ y
+    at-root y h = v .root ∙ sym (same-true y (s .root) (opposite-false (same y (s .root)) h))
 
-      -- a line that issues a memorandum whose meaning is known
-      issued : (q : Request) (t : Memo) (c : Change) → answer D s q .after ≡ s → answer D s q .effect ≡ issues t c
-          → memo t (s .secret) ∈ G q → Means (digest D) (G q) t (meaning (w .book) c) → Core (landed D by w (a q))
-      issued q t c e₁ e₂ i m =
+    -- a memorandum that a check c asks to say t
+    means : {q : Request} (g : GivenTo q) (t : Memo) (m : Dig) → List·Memᴰ m (carried q) → {c : Check} → List·Memᴰ c (needs D s q)
+        → memo t key ∈ c .forms → noneFits D key (t ∷ []) m ≡ false → Or D w (G q) q (Means dig (G q) t (standsFor m (w .book)))
+    means {q} g t m i {c} j k h = C.means D w (G q) (backed q) q t m i (g .of-check c j _ k) h
+
+    -- a line that issues a memorandum whose meaning is known; it is the first string that its answer forms
+    issued : {q : Request} (g : GivenTo q) {t : Memo} {c : Change} {l : List Str} → answer D s q .after ≡ s
+        → answer D s q .effect ≡ issues t c → answer D s q .forms ≡ memo t key ∷ l → TrueAnswer D q (w .items)
+        → Means dig (G q) t (meaning (w .book) c) → Comes q
+    issued {q} g {t} e₁ e₂ e₃ tr m =
+        inr (
           record {
             tree = v .tree;
             root = v .root ∙ sym (ap (λ (r : Registers). r .root) e₁);
@@ -126,106 +144,136 @@ module _ (D : List ℕ → Dig) (D32 : (l : List ℕ) → length (D l) ≡ 32) w
             book =
                 rw e₂
                 (book-enter D by (w .book) _ (backed q)
-                (record { says = t; key = s .secret; formed = i; memorandum-is = refl; means = m }));
+                (record { says = t; key = key; formed = g .of-answer _ (rw e₃ at0); memorandum-is = refl; means = m }));
             counter = rw e₂ (ap (λ (r : Registers). r .counter .0) e₁ ∙ v .counter);
-          }
-
-      -- its memorandum is the first string that its answer forms
-      first-string : (q : Request) (t : Str) (l : List Str) → answer D s q .forms ≡ t ∷ l → t ∈ G q
-      first-string q t l e = Memᴰ·append-left (w .formed) (Memᴰ·append-left {s = answer D s q .forms} fs
-          (rw e (List·Memᴰ·head refl)))
-
-      issues-it : (q : Request) (t : Memo) (c : Change) (l : List Str) → answer D s q .after ≡ s → answer D s q .effect
-          ≡ issues t c
-          → answer D s q .forms ≡ memo t (s .secret) ∷ l → TrueAnswer D q (w .items) → LegalEffect D w (answer D s q .effect)
-          → Or D D32 w (G q) q (Means (digest D) (G q) t (meaning (w .book) c)) → Comes q
-      issues-it q t c l e₁ e₂ f tr le o = do
-        m ← o
-        inr (issued q t c e₁ e₂ (first-string q (memo t (s .secret)) l f) m, tr, le)
-
-      -- a record that changes
-      changed : (q : Request) (A : ℕ) (old new : Record) (y′ : Dig) → answer D s q .after .root ≡ y′
-          → answer D s q .after .counter .0 ≡ s .counter .0 + 1 → answer D s q .effect ≡ changes A new → TrueAnswer D q (w .items)
-          → (blank new ≡ true → blank old ≡ false) → Or D D32 w (G q) q (L.Put (digest D) (G q) y′ A old new (w .items)) → Comes q
-      changed q A old new y′ e₁ e₂ e₃ tr full o = do
-        p ← o
-        inr (
-          record {
-            tree = p .tree;
-            root = hash-is D D32 (p .tree) ∙ p .tree-hash ∙ sym e₁;
-            stands = rw e₃ (p .stands);
-            book = rw (e₃, entered-none by (w .book)) (backed q);
-            counter = rw e₃ (e₂ ∙ ap (λ (n : ℕ). n + 1) (v .counter));
           },
           tr,
-          rw e₃ (old, p .was, full),
+          rw e₂ tt,
         )
 
-      pub accepted : (q : Request) → Given D D32 w (G q) q → Comes q
-      accepted (Q.path x x′ sides l) g =
-          let q = Q.path x x′ sides l in
-          issues-it q _ _ _ refl refl refl tt tt (E.path D D32 w (G q) (backed q) x x′ sides l g)
-      accepted (Q.witness x y m) g =
-          let q = Q.witness x y m in
-          issues-it q _ _ _ refl refl refl tt tt (E.witness D D32 w (G q) (backed q) x y m g)
-      accepted (Q.join x y x′ y′ m1 z z′ m2) g =
-          let q = Q.join x y x′ y′ m1 z z′ m2 in
-          issues-it q _ _ _ refl refl refl tt tt (E.join D D32 w (G q) (backed q) x y x′ y′ m1 z z′ m2 g)
-      accepted (Q.pair x1 y x1′ y′ m1 x2 z x2′ z′ m2) g =
-          let q = Q.pair x1 y x1′ y′ m1 x2 z x2′ z′ m2 in
-          issues-it q _ _ _ refl refl refl tt tt (E.pair D D32 w (G q) (backed q) x1 y x1′ y′ m1 x2 z x2′ z′ m2 g)
-      accepted (Q.raise x1 x2 y x1′ x2′ y′ m1 z z′ m2) g =
-          let q = Q.raise x1 x2 y x1′ x2′ y′ m1 z z′ m2 in
-          issues-it q _ _ _ refl refl refl tt tt (E.raise D D32 w (G q) (backed q) x1 x2 y x1′ x2′ y′ m1 z z′ m2 g)
-      accepted (Q.swap x1 x2 y y′ m) g =
-          let q = Q.swap x1 x2 y y′ m in
-          issues-it q _ _ _ refl refl refl tt tt (E.swap D D32 w (G q) (backed q) x1 x2 y y′ m g)
-      accepted (Q.first A) g =
-          let q = Q.first A in
-          issues-it q _ _ _ refl refl refl tt tt (E.first D D32 w (G q) (backed q) A g)
-      accepted (Q.place A A′ B′ ω y y′ m) g =
-          let q = Q.place A A′ B′ ω y y′ m in
-          issues-it q _ _ _ refl refl refl tt tt (E.place D D32 w (G q) (backed q) A A′ B′ ω y y′ m g)
-      accepted (Q.turn x y m) g =
-          let q = Q.turn x y m in
-          issues-it q _ _ _ refl refl refl tt tt (E.turn D D32 w (G q) (backed q) x y m g)
-      accepted (Q.chain x y m1 z m2) g =
-          let q = Q.chain x y m1 z m2 in
-          issues-it q _ _ _ refl refl refl tt tt (E.chain D D32 w (G q) (backed q) x y m1 z m2 g)
-      accepted (Q.adopt y y′ m) g = do
-        let q = Q.adopt y y′ m
-        p ← E.adopt D D32 w (G q) (backed q) (v .tree) (v .root) (standing q) y y′ m g
-        inr (
-          record {
-            tree = p .tree;
-            root = hash-is D D32 (p .tree) ∙ p .tree-hash;
-            stands = p .stands;
-            book = rw (entered-none by (w .book)) (backed q);
-            counter = v .counter;
-          },
-          tt,
-          p .legal,
-        )
-      accepted (Q.setTo A A′ old v2 v3 v4 y y′ m) g =
-          let q = Q.setTo A A′ old v2 v3 v4 y y′ m in
-          changed q A old _ y′ refl refl refl tt
-          (λ e. absurd (true≢false (sym e ∙ ne-eqb (s .counter .0 + 1) 0 (λ z. omega arith))))
-          (E.set-record D D32 w (G q) (backed q) (v .tree) (v .root) (standing q) A A′ old v2 v3 v4 y y′ m g)
-      accepted (Q.clear A A′ old y y′ m) g =
-          let q = Q.clear A A′ old y y′ m in
-          changed q A old _ y′ refl refl refl tt (λ e. g .none-fails .1 .1 .1 .1 .0)
-          (E.clear D D32 w (G q) (backed q) (v .tree) (v .root) (standing q) A A′ old y y′ m g)
-      accepted (Q.ask q A A′ r y m) g = do
-        let h = g .none-fails .1 .1 .1 .1
-        let p = Q.ask q A A′ r y m
-        f ← E.ask D D32 w (G p) (backed p) (v .tree) (v .root) (standing p) q A A′ r y m g
-        inr (
-          kept-core by w (a p) refl refl refl v,
-          true-finding (w .formed) (w .items) q A A′ r (h .0) (opposite-false _ (h .1 .0)) f,
-          tt,
-        )
-      accepted (Q.askNone q) g = do
-        let p = Q.askNone q
-        f ← E.ask-none D D32 w (G p) (backed p) (v .tree) (v .root) (standing p) q g
-        inr (kept-core by w (a p) refl refl refl v, f, tt)
-      accepted (Q.unlock k) g = inr (kept-core by w (a (Q.unlock k)) refl refl refl v, tt, tt)
+    -- a record that changes
+    changed : {q : Request} (g : GivenTo q) (A A′ : ℕ) (old new : Record) (y y′ m : Dig) → List·Memᴰ m (carried q)
+        → Within (changeForms D A A′ old new ++ tried D key (changeSays D A A′ old new y y′ ∷ []) m) (G q)
+        → malformed old ≡ false → malformed new ≡ false
+        → noneFits D key (changeSays D A A′ old new y y′ ∷ []) m ≡ false → opposite (same y (s .root)) ≡ false
+        → answer D s q .after .root ≡ y′ → answer D s q .after .counter .0 ≡ s .counter .0 + 1
+        → answer D s q .effect ≡ changes A new → TrueAnswer D q (w .items) → (blank new ≡ true → blank old ≡ false) → Comes q
+    changed {q} g A A′ old new y y′ m i forms ok ok′ fit r e₁ e₂ e₃ tr full = do
+      let t = changeSays D A A′ old new y y′
+      u ← C.means D w (G q) (backed q) q t m i (forms _ (Memᴰ·append-right (changeForms D A A′ old new) at0)) fit
+      p ← or-fault D w (G q) q (P.put D D32 (G q) A A′ old new (v .tree) (w .items) ok ok′ (λ x j. forms x (Memᴰ·append-left _ j)) u
+          (at-root y r) (standing q))
+      inr (
+        record {
+          tree = p .tree;
+          root = hash-is D D32 (p .tree) ∙ p .tree-hash ∙ sym e₁;
+          stands = rw e₃ (p .stands);
+          book = rw (e₃, entered-none by (w .book)) (backed q);
+          counter = rw e₃ (e₂ ∙ ap (λ (n : ℕ). n + 1) (v .counter));
+        },
+        tr,
+        rw e₃ (old, p .was, full),
+      )
+
+    -- a set's new record has a revision above 0
+    set-recorded : (v2 v3 v4 : ℕ) → blank (nextRecord s v2 v3 v4) ≡ false
+    set-recorded v2 v3 v4 = ne-eqb (s .counter .0 + 1) 0 (λ z. omega arith)
+
+    set-sound : (v2 v3 v4 : ℕ) → malformed (nextRecord s v2 v3 v4) ≡ false
+    unfolding malformed
+    set-sound v2 v3 v4 = rw (set-recorded v2 v3 v4) refl
+
+    cleared-sound : malformed clearedRecord ≡ false
+    unfolding malformed
+    cleared-sound = refl
+
+    pub accepted : (q : Request) → GivenTo q → Comes q
+    accepted (Q.path x x′ sides l) g =
+        let q = Q.path x x′ sides l in
+        let i : Within (foldForms D x′ sides l ++ foldForms D x sides l) (G q) = λ t m. g .of-answer t (List·Memᴰ·tail m) in
+        issued g refl refl refl tt
+        (path D D32 (G q) x x′ sides l (g .wide .0) (g .wide .1) (g .wide .2)
+        (λ t m. i t (Memᴰ·append-right (foldForms D x′ sides l) m)) (λ t m. i t (Memᴰ·append-left _ m)))
+    accepted (Q.witness x y m) g = do
+      u ← means g (u1 x y x y) m at0 at1 at0 (g .none-fails .1 .0)
+      issued g refl refl refl tt (T.witness dig u)
+    accepted (Q.join x y x′ y′ m1 z z′ m2) g = do
+      u ← means g (u1 x y x′ y′) m1 at0 at1 at0 (g .none-fails .1 .0)
+      v ← means g (u1 y z y′ z′) m2 at1 at2 at0 (g .none-fails .1 .1 .0)
+      issued g refl refl refl tt (T.join dig u v)
+    accepted (Q.pair x1 y x1′ y′ m1 x2 z x2′ z′ m2) g = do
+      let q = Q.pair x1 y x1′ y′ m1 x2 z x2′ z′ m2
+      let i : Within (parentForms y′ z′ ++ parentForms y z) (G q) = λ t m. g .of-answer t (List·Memᴰ·tail m)
+      u ← means g (u1 x1 y x1′ y′) m1 at0 at1 at0 (g .none-fails .1 .0)
+      v ← means g (u1 x2 z x2′ z′) m2 at1 at2 at0 (g .none-fails .1 .1 .0)
+      issued g refl refl refl tt (P.pair D D32 (G q) (g .wide .1) (g .wide .5) (g .wide .3) (g .wide .7)
+          (λ t m. i t (Memᴰ·append-right (parentForms y′ z′) m)) (λ t m. i t (Memᴰ·append-left _ m)) u v)
+    accepted (Q.raise x1 x2 y x1′ x2′ y′ m1 z z′ m2) g = do
+      u ← means g (u2 x1 x2 y x1′ x2′ y′) m1 at0 at1 at0 (g .none-fails .1 .0)
+      v ← means g (u1 y z y′ z′) m2 at1 at2 at0 (g .none-fails .1 .1 .0)
+      issued g refl refl refl tt (T.raise dig u v)
+    accepted (Q.swap x1 x2 y y′ m) g = do
+      u ← means g (u2 x1 x2 y x2 x1 y′) m at0 at1 at0 (g .none-fails .1 .0)
+      issued g refl refl refl tt (R.swap dig u)
+    accepted (Q.first A) g =
+        issued g refl refl refl tt
+        (R.first dig A (omega (arith, eqb-false A 0 (g .none-fails .1 .0))) (g .of-answer _ at1))
+    accepted (Q.place A A′ B′ ω y y′ m) g = do
+      let q = Q.place A A′ B′ ω y y′ m
+      let x1 = dig (leaf A A′ ω)
+      let x1′ = dig (leaf A B′ ω)
+      let x2 = dig (leaf A′ B′ nought)
+      let forms : Within (placeForms A A′ B′ ω ++ tried D key (placeSays D A A′ B′ ω y y′) m) (G q) = g .of-check _ at5
+      u ← C.means-either D w (G q) (backed q) q (u2 x1 x2 y x1′ nought y′) (u2 x2 x1 y nought x1′ y′) m at0
+          (λ t i. forms t (Memᴰ·append-right (placeForms A A′ B′ ω) i)) (g .none-fails .1 .1 .1 .1 .1 .0)
+      issued g refl refl refl tt (P.place D D32 (G q) A A′ B′ ω (opposite-false _ (g .none-fails .1 .1 .1 .1 .0))
+          (λ t i. forms t (Memᴰ·append-left _ i)) u)
+    accepted (Q.turn x y m) g = do
+      u ← means g (ei x y) m at0 at1 at0 (g .none-fails .1 .0)
+      issued g refl refl refl tt (R.turn dig u)
+    accepted (Q.chain x y m1 z m2) g = do
+      u ← means g (ei x y) m1 at0 at1 at0 (g .none-fails .1 .0)
+      v ← means g (ei y z) m2 at1 at2 at0 (g .none-fails .1 .1 .0)
+      issued g refl refl refl tt (R.chain dig u v)
+    accepted (Q.adopt y y′ m) g = do
+      let q = Q.adopt y y′ m
+      u ← means g (ei y y′) m at0 at1 at0 (g .none-fails .1 .0)
+      p ← or-fault D w (G q) q (P.adopt D D32 (G q) (v .tree) (w .items) u (at-root y (g .none-fails .1 .1 .0)) (standing q))
+      inr (
+        record {
+          tree = p .tree;
+          root = hash-is D D32 (p .tree) ∙ p .tree-hash;
+          stands = p .stands;
+          book = rw (entered-none by (w .book)) (backed q);
+          counter = v .counter;
+        },
+        tt,
+        p .legal,
+      )
+    accepted (Q.setTo A A′ old v2 v3 v4 y y′ m) g =
+        let h = g .none-fails .1 .1 .1 in
+        changed g A A′ old (nextRecord s v2 v3 v4) y y′ m at0 (g .of-check _ at5) (h .0) (set-sound v2 v3 v4) (h .1 .1 .0)
+        (h .1 .1 .1 .0) refl refl refl tt (λ e. absurd (true≢false (sym e ∙ set-recorded v2 v3 v4)))
+    accepted (Q.clear A A′ old y y′ m) g =
+        let h = g .none-fails .1 .1 .1 in
+        changed g A A′ old clearedRecord y y′ m at0 (g .of-check _ at6) (h .0) cleared-sound (h .1 .1 .1 .0) (h .1 .1 .1 .1 .0)
+        refl refl refl tt (λ e. h .1 .0)
+    accepted (Q.ask n A A′ r y m) g = do
+      let q = Q.ask n A A′ r y m
+      let h = g .none-fails .1 .1 .1 .1
+      let t = v1 (dig (leafOf D A A′ r)) y
+      let forms : Within (leafForms D A A′ r ++ tried D key (t ∷ []) m) (G q) = g .of-check _ at6
+      u ← means g t m at0 at6 (Memᴰ·append-right (leafForms D A A′ r) at0) (h .1 .1 .0)
+      f ← or-fault D w (G q) q (P.ask D D32 (G q) A A′ r (v .tree) (w .items) (h .0) (λ x i. forms x (Memᴰ·append-left _ i)) u
+          (at-root y (h .1 .1 .1 .0)) (standing q))
+      inr (
+        kept-core by w (a q) refl refl refl v,
+        true-finding (w .formed) (w .items) n A A′ r (h .0) (opposite-false _ (h .1 .0)) f,
+        tt,
+      )
+    accepted (Q.askNone n) g = do
+      let q = Q.askNone n
+      f ← or-fault D w (G q) q
+          (P.ask-none D D32 (G q) (v .tree) (w .items) (at-root nought (g .none-fails .1 .1 .0)) (standing q))
+      inr (kept-core by w (a q) refl refl refl v, f, tt)
+    accepted (Q.unlock k) g = inr (kept-core by w (a (Q.unlock k)) refl refl refl v, tt, tt)

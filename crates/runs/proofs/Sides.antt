@@ -23,12 +23,11 @@ use Rattle.paper.specs.Module.{Told, told}
 use Rattle.paper.proofs.Early.{late, numbered-late}
 use Rattle.runs.specs.Run.{Turn, Reading, ofRuns, World, toldAt, landed, next, after}
 use Rattle.runs.specs.Safety.{Untouched}
-use Rattle.runs.proofs.Accepted.{NoneFails, none-fails, accepted-passed}
+use Rattle.runs.proofs.Accepted.{opposite-false, NoneFails, none-fails, accepted-passed}
 use Rattle.runs.proofs.Lines.{Sorted, early, on-time, sorted}
 use Rattle.runs.proofs.Widths.{Is32, Small, Wide, wide}
 use Rattle.runs.proofs.Formed.{Well, well-append, Next, well-formed, at-top, Shut, refused-13, opening, shut}
 use Rattle.runs.proofs.Book.{entered-none}
-use Rattle.runs.proofs.Effects.{opposite-false}
 
 -- two digits make a byte
 pub line-bytes : (l : List ℕ) → Bytes (bytesOf l)
