@@ -4,19 +4,19 @@ use mathlib.Core.Bool.{Bool, true, false}
 use mathlib.Core.List.{List, [], _∷_, _++_, List·Memᴰ, List·Memᴰ·head, List·Memᴰ·tail}
 use Prim.Native.Nat.{ℕ, _+_, _/_, _%_}
 use native.Mathlib.Omega.{arith}
-use borrow.Author.Tests.{eq-eqb}
+use borrow.Author.Tests.{eqb-false}
 use lib.Dec.{eqb}
 use lib.ListN.{length}
-use Rattle.seqs.specs.Choose.{pick}
+use Rattle.seqs.specs.Choose.{pick, either, opposite, _and_}
 use Rattle.seqs.specs.Bytes.{same, allZero}
 use Rattle.paper.specs.declared.Record.{Record}
 use Rattle.paper.specs.declared.Registers.{Registers}
-use Rattle.paper.specs.Strings.{Dig, nought, Memo, u1, v1, u2, ei, Str, leaf, node, entry, memo, enc, digest, WellFormed, blank, recordForms, parentForms, H, up, upForms, foldForms}
+use Rattle.paper.specs.Strings.{Dig, Memo, u1, v1, u2, ei, Str, node, entry, memo, enc, digest, WellFormed, blank, malformed, recordForms, parentForms, H, up, upForms, foldForms}
 use Rattle.paper.specs.Requests as Q
 use Rattle.paper.specs.Requests.{Request}
 use Rattle.paper.specs.Refusals.{Check, top, nextRecord, clearedRecord, placeForms, placeSays, tried, leafOf, leafForms, changeForms, changeSays, needs, those, formsAll, applies, formedAt, Verdict, refused, passed, judge}
 use Rattle.paper.specs.Answers.{answer}
-use Rattle.paper.specs.Module.{told}
+use Rattle.paper.specs.Module.{Told, told}
 use Rattle.paper.proofs.Verdicts.{formedBy}
 use Rattle.rings.proofs.Bridge.{record-32, parent-32}
 use Rattle.rings.proofs.Paths.{AllWide, fold-up-32}
@@ -40,6 +40,10 @@ well-append (s ∷ a) b h k = (h .0, well-append a b (h .1) k)
 well-pick : (b : Bool) (l m : List Str) → Well l → Well m → Well (pick b l m)
 well-pick true l m h k = h
 well-pick false l m h k = k
+
+-- a counter below 2 ^ 64 stays so: at its top nothing is set or cleared
+pub below-top : (c : ℕ) → Small c → eqb c top ≡ false → Small (c + 1)
+below-top c h e = omega (arith, eqb-false c top e)
 
 -- ── the strings of checks ──
 
@@ -115,185 +119,168 @@ module _ (D : List ℕ → Dig) (D32 : (l : List ℕ) → length (D l) ≡ 32) w
       (well-parent u s hu (hl .0)))
       (well-fold (up D u s (sides % 2)) (sides / 2) l (up-32 u s (sides % 2) hu (hl .0)) (hl .1))
 
-  well-u1 : (x y x′ y′ k : Dig) → Is32 x → Is32 y → Is32 x′ → Is32 y′ → Is32 k → WellFormed (memo (u1 x y x′ y′) k)
-  well-u1 x y x′ y′ k a b c d e = (a, (b, (c, (d, (e, tt)))))
+  -- ── what a line's request comes to ──
 
-  well-u2 : (x1 x2 y x1′ x2′ y′ k : Dig) → Is32 x1 → Is32 x2 → Is32 y → Is32 x1′ → Is32 x2′ → Is32 y′ → Is32 k
-      → WellFormed (memo (u2 x1 x2 y x1′ x2′ y′) k)
-  well-u2 x1 x2 y x1′ x2′ y′ k a b c d e f g = (a, (b, (c, (d, (e, (f, (g, tt)))))))
+  -- the answer to a request whose line is read
+  abbrev pub answered : Registers → (kind : ℕ) → Request → Told
+  answered s kind q = told D s kind q (judge late [] (needs D s q))
+
+  -- Where no string is formed: an opening, and a set at the counter's top.
+  opening : (s : Registers) (kind : ℕ) (k : Dig) → answered s kind (Q.unlock k) .formed ≡ []
+  opening s kind k = by-tests (s .opened) (allZero k)
+    where
+      by-tests : (b c : Bool)
+          → told D s kind (Q.unlock k) (pick (either b false) (refused 14 []) (pick (either c false) (refused 12 []) (passed [])))
+          .formed ≡ []
+      by-tests true c = refl
+      by-tests false true = refl
+      by-tests false false = refl
+
+  at-top : (s : Registers) (kind A A′ : ℕ) (old : Record) (v2 v3 v4 : ℕ) (y y′ m : Dig) → eqb (s .counter .0) top ≡ true
+      → answered s kind (Q.setTo A A′ old v2 v3 v4 y y′ m) .formed ≡ []
+  at-top s kind A A′ old v2 v3 v4 y y′ m h = rw h (by-tests (s .opened) (eqb A 0) (eqb A′ 0) (malformed old))
+    where
+      by-tests : (o a b f : Bool)
+          → told D s kind (Q.setTo A A′ old v2 v3 v4 y y′ m)
+          (pick (either (opposite o) false) (refused 13 [])
+          (pick (either a (either b false)) (refused 4 []) (pick (either f false) (refused 5 []) (refused 7 [])))) .formed ≡ []
+      by-tests false a b f = refl
+      by-tests true true b f = refl
+      by-tests true false true f = refl
+      by-tests true false false true = refl
+      by-tests true false false false = refl
+
+  -- Else a module that is not open refuses by 13, before it forms any; and with a secret of 32 bytes all that the checks form
+  -- is well formed.
+  data Forms (s : Registers) (q : Request) : Type 0 where
+    none-at-all : ((kind : ℕ) → answered s kind q .formed ≡ []) → Forms s q
+    of-checks : (s .opened ≡ false → judge late [] (needs D s q) ≡ refused 13 []) → (Is32 (s .secret) → WellChecks (needs D s q))
+        → Forms s q
 
   -- ── every kind ──
 
-  -- only a set's new record depends on the counter
-  abbrev pub Next : Registers → Request → Type 0
-  Next s (Q.path x x′ sides l) = Unit {0}
-  Next s (Q.witness x y m) = Unit {0}
-  Next s (Q.join x y x′ y′ m1 z z′ m2) = Unit {0}
-  Next s (Q.pair x1 y x1′ y′ m1 x2 z x2′ z′ m2) = Unit {0}
-  Next s (Q.raise x1 x2 y x1′ x2′ y′ m1 z z′ m2) = Unit {0}
-  Next s (Q.swap x1 x2 y y′ m) = Unit {0}
-  Next s (Q.first A) = Unit {0}
-  Next s (Q.place A A′ B′ ω y y′ m) = Unit {0}
-  Next s (Q.turn x y m) = Unit {0}
-  Next s (Q.chain x y m1 z m2) = Unit {0}
-  Next s (Q.adopt y y′ m) = Unit {0}
-  Next s (Q.setTo A A′ old v2 v3 v4 y y′ m) = Small (s .counter .0 + 1)
-  Next s (Q.clear A A′ old y y′ m) = Unit {0}
-  Next s (Q.ask q A A′ r y m) = Unit {0}
-  Next s (Q.askNone q) = Unit {0}
-  Next s (Q.unlock k) = Unit {0}
-
-  module _ (s : Registers) (hk : Is32 (s .secret)) where
+  module _ (s : Registers) where
     abbrev key : Dig
     key = s .secret
 
-    well-needs : (q : Request) → Next s q → Wide q → WellChecks (needs D s q)
-    well-needs (Q.path x x′ sides l) n w = (tt, tt)
-    well-needs (Q.witness x y m) n w =
-        (tt, (well-tried key (u1 x y x y ∷ []) m (well-u1 x y x y key (w .0) (w .1) (w .0) (w .1) hk, tt), tt))
-    well-needs (Q.join x y x′ y′ m1 z z′ m2) n w =
-        let a = well-tried key (u1 x y x′ y′ ∷ []) m1 (well-u1 x y x′ y′ key (w .0) (w .1) (w .2) (w .3) hk, tt) in
-        let b = well-tried key (u1 y z y′ z′ ∷ []) m2 (well-u1 y z y′ z′ key (w .1) (w .4) (w .3) (w .5) hk, tt) in
-        (tt, (a, (b, tt)))
-    well-needs (Q.pair x1 y x1′ y′ m1 x2 z x2′ z′ m2) n w =
-        let a = well-tried key (u1 x1 y x1′ y′ ∷ []) m1 (well-u1 x1 y x1′ y′ key (w .0) (w .1) (w .2) (w .3) hk, tt) in
-        let b = well-tried key (u1 x2 z x2′ z′ ∷ []) m2 (well-u1 x2 z x2′ z′ key (w .4) (w .5) (w .6) (w .7) hk, tt) in
-        (tt, (a, (b, tt)))
-    well-needs (Q.raise x1 x2 y x1′ x2′ y′ m1 z z′ m2) n w =
-        let t = well-u2 x1 x2 y x1′ x2′ y′ key (w .0) (w .1) (w .2) (w .3) (w .4) (w .5) hk in
-        let a = well-tried key (u2 x1 x2 y x1′ x2′ y′ ∷ []) m1 (t, tt) in
-        let b = well-tried key (u1 y z y′ z′ ∷ []) m2 (well-u1 y z y′ z′ key (w .2) (w .6) (w .5) (w .7) hk, tt) in
-        (tt, (a, (b, tt)))
-    well-needs (Q.swap x1 x2 y y′ m) n w =
-        let t = well-u2 x1 x2 y x2 x1 y′ key (w .0) (w .1) (w .2) (w .1) (w .0) (w .3) hk in
-        (tt, (well-tried key (u2 x1 x2 y x2 x1 y′ ∷ []) m (t, tt), tt))
-    well-needs (Q.first A) n w = (tt, (tt, tt))
-    well-needs (Q.place A A′ B′ ω y y′ m) n w =
-        let x1 = digest D (leaf A A′ ω) in
-        let x1′ = digest D (leaf A B′ ω) in
-        let x2 = digest D (leaf A′ B′ nought) in
-        let t = well-u2 x1 x2 y x1′ nought y′ key (d32 _) (d32 _) (w .4) (d32 _) refl (w .5) hk in
-        let t′ = well-u2 x2 x1 y nought x1′ y′ key (d32 _) (d32 _) (w .4) refl (d32 _) (w .5) hk in
-        let f = well-append (placeForms A A′ B′ ω) (tried D key (placeSays D A A′ B′ ω y y′) m) (
-          (w .0, (w .1, (w .3, tt))),
-          ((w .0, (w .2, (w .3, tt))), ((w .1, (w .2, (refl, tt))), tt)),
-        )
-        (well-tried key (placeSays D A A′ B′ ω y y′) m (t, (t′, tt))) in
-        (tt, (tt, (tt, (tt, (tt, (f, tt))))))
-    well-needs (Q.turn x y m) n w = (tt, (well-tried key (ei x y ∷ []) m ((w .0, (w .1, (hk, tt))), tt), tt))
-    well-needs (Q.chain x y m1 z m2) n w =
-        let a = well-tried key (ei x y ∷ []) m1 ((w .0, (w .1, (hk, tt))), tt) in
-        let b = well-tried key (ei y z ∷ []) m2 ((w .1, (w .2, (hk, tt))), tt) in
-        (tt, (a, (b, tt)))
-    well-needs (Q.adopt y y′ m) n w = (tt, (well-tried key (ei y y′ ∷ []) m ((w .0, (w .1, (hk, tt))), tt), (tt, tt)))
-    well-needs (Q.setTo A A′ old v2 v3 v4 y y′ m) n w =
-        let new = nextRecord s v2 v3 v4 in
-        let t = changeSays D A A′ old new y y′ in
-        let f = well-append (changeForms D A A′ old new) (tried D key (t ∷ []) m)
-        (well-change A A′ old new (w .0) (w .1) (w .2) (n, w .3, w .4, w .5))
-        (well-tried key (t ∷ []) m ((d32 _, (w .6, (d32 _, (w .7, (hk, tt))))), tt)) in
-        (tt, (tt, (tt, (tt, (tt, (f, (tt, tt)))))))
-    well-needs (Q.clear A A′ old y y′ m) n w =
-        let t = changeSays D A A′ old clearedRecord y y′ in
-        let f = well-append (changeForms D A A′ old clearedRecord) (tried D key (t ∷ []) m)
-        (well-change A A′ old clearedRecord (w .0) (w .1) (w .2) (omega arith, omega arith, omega arith, omega arith))
-        (well-tried key (t ∷ []) m ((d32 _, (w .3, (d32 _, (w .4, (hk, tt))))), tt)) in
-        (tt, (tt, (tt, (tt, (tt, (tt, (f, (tt, tt))))))))
-    well-needs (Q.ask q A A′ r y m) n w =
-        let t = v1 (digest D (leafOf D A A′ r)) y in
-        let f = well-append (leafForms D A A′ r) (tried D key (t ∷ []) m) (well-leaf A A′ r (w .1) (w .2) (w .3))
-        (well-tried key (t ∷ []) m ((d32 _, (w .4, (hk, tt))), tt)) in
-        (tt, (tt, (tt, (tt, (tt, (tt, (f, (tt, tt))))))))
-    well-needs (Q.askNone q) n w = (tt, (tt, (tt, tt)))
-    well-needs (Q.unlock k) n w = (tt, (tt, tt))
+    -- a check that asks for one memorandum, with strings before it or without
+    says : (t : Memo) (m : Dig) → WellFormed (memo t key) → Well (tried D key (t ∷ []) m)
+    says t m h = well-tried key (t ∷ []) m (h, tt)
 
-    well-answer : (q : Request) → Wide q → Well (answer D s q .forms)
-    well-answer (Q.path x x′ sides l) w =
+    says-after : (l : List Str) (t : Memo) (m : Dig) → Well l → WellFormed (memo t key) → Well (l ++ tried D key (t ∷ []) m)
+    says-after l t m k h = well-append l (tried D key (t ∷ []) m) k (says t m h)
+
+    -- of a set or a clear
+    says-change : (A A′ : ℕ) (old new : Record) (y y′ m : Dig) → Small A → Small A′ → SmallRecord old → SmallRecord new → Is32 y
+        → Is32 y′ → Is32 key → Well (changeForms D A A′ old new ++ tried D key (changeSays D A A′ old new y y′ ∷ []) m)
+    says-change A A′ old new y y′ m hA hA′ ho hn hy hy′ k =
+        says-after (changeForms D A A′ old new) (changeSays D A A′ old new y y′) m (well-change A A′ old new hA hA′ ho hn)
+        (d32 _ and hy and d32 _ and hy′ and k and tt)
+
+    forms : (q : Request) → Small (s .counter .0) → Wide q → Forms s q
+    forms (Q.path x x′ sides l) c w = of-checks (λ o. rw o refl) (λ k. tt and tt)
+    forms (Q.witness x y m) c w =
+        of-checks (λ o. rw o refl) (λ k. tt and says (u1 x y x y) m (w .0 and w .1 and w .0 and w .1 and k and tt) and tt)
+    forms (Q.join x y x′ y′ m1 z z′ m2) c w =
+        of-checks (λ o. rw o refl) (λ k.
+        tt and says (u1 x y x′ y′) m1 (w .0 and w .1 and w .2 and w .3 and k and tt)
+        and says (u1 y z y′ z′) m2 (w .1 and w .4 and w .3 and w .5 and k and tt) and tt)
+    forms (Q.pair x1 y x1′ y′ m1 x2 z x2′ z′ m2) c w =
+        of-checks (λ o. rw o refl) (λ k.
+        tt and says (u1 x1 y x1′ y′) m1 (w .0 and w .1 and w .2 and w .3 and k and tt)
+        and says (u1 x2 z x2′ z′) m2 (w .4 and w .5 and w .6 and w .7 and k and tt) and tt)
+    forms (Q.raise x1 x2 y x1′ x2′ y′ m1 z z′ m2) c w =
+        of-checks (λ o. rw o refl) (λ k.
+        tt and says (u2 x1 x2 y x1′ x2′ y′) m1 (w .0 and w .1 and w .2 and w .3 and w .4 and w .5 and k and tt)
+        and says (u1 y z y′ z′) m2 (w .2 and w .6 and w .5 and w .7 and k and tt) and tt)
+    forms (Q.swap x1 x2 y y′ m) c w =
+        of-checks (λ o. rw o refl) (λ k.
+        tt and says (u2 x1 x2 y x2 x1 y′) m (w .0 and w .1 and w .2 and w .1 and w .0 and w .3 and k and tt) and tt)
+    forms (Q.first A) c w = of-checks (λ o. rw o refl) (λ k. tt and tt and tt)
+    forms (Q.place A A′ B′ ω y y′ m) c w =
+        of-checks (λ o. rw o refl) (λ k.
+        let leaves : Well (placeForms A A′ B′ ω) =
+        (w .0 and w .1 and w .3 and tt) and (w .0 and w .2 and w .3 and tt) and (w .1 and w .2 and refl and tt) and tt in
+        let says′ = placeSays D A A′ B′ ω y y′ in
+        let memos : WellMemos key says′ =
+        (d32 _ and d32 _ and w .4 and d32 _ and refl and w .5 and k and tt)
+        and (d32 _ and d32 _ and w .4 and refl and d32 _ and w .5 and k and tt) and tt in
+        let tries = well-append (placeForms A A′ B′ ω) (tried D key says′ m) leaves (well-tried key says′ m memos) in
+        tt and tt and tt and tt and tt and tries and tt)
+    forms (Q.turn x y m) c w = of-checks (λ o. rw o refl) (λ k. tt and says (ei x y) m (w .0 and w .1 and k and tt) and tt)
+    forms (Q.chain x y m1 z m2) c w =
+        of-checks (λ o. rw o refl) (λ k.
+        tt and says (ei x y) m1 (w .0 and w .1 and k and tt) and says (ei y z) m2 (w .1 and w .2 and k and tt) and tt)
+    forms (Q.adopt y y′ m) c w =
+        of-checks (λ o. rw o refl) (λ k. tt and says (ei y y′) m (w .0 and w .1 and k and tt) and tt and tt)
+    forms (Q.setTo A A′ old v2 v3 v4 y y′ m) c w = by-counter (eqb (s .counter .0) top) refl
+      where
+        by-counter : (b : Bool) → eqb (s .counter .0) top ≡ b → Forms s (Q.setTo A A′ old v2 v3 v4 y y′ m)
+        by-counter true e = none-at-all (λ kind. at-top s kind A A′ old v2 v3 v4 y y′ m e)
+        by-counter false e =
+            let new = nextRecord s v2 v3 v4 in
+            let new-small : SmallRecord new = (below-top (s .counter .0) c e, w .3, w .4, w .5) in
+            of-checks (λ o. rw o refl) (λ k.
+            tt and tt and tt and tt and tt
+            and says-change A A′ old new y y′ m (w .0) (w .1) (w .2) new-small (w .6) (w .7) k and tt and tt)
+    forms (Q.clear A A′ old y y′ m) c w =
+        of-checks (λ o. rw o refl) (λ k.
+        let zeros : SmallRecord clearedRecord = (omega arith, omega arith, omega arith, omega arith) in
+        tt and tt and tt and tt and tt and tt
+        and says-change A A′ old clearedRecord y y′ m (w .0) (w .1) (w .2) zeros (w .3) (w .4) k and tt and tt)
+    forms (Q.ask q A A′ r y m) c w =
+        of-checks (λ o. rw o refl) (λ k.
+        let leaf-well = well-leaf A A′ r (w .1) (w .2) (w .3) in
+        tt and tt and tt and tt and tt and tt
+        and says-after (leafForms D A A′ r) (v1 (digest D (leafOf D A A′ r)) y) m leaf-well (d32 _ and w .4 and k and tt)
+        and tt and tt)
+    forms (Q.askNone q) c w = of-checks (λ o. rw o refl) (λ k. tt and tt and tt and tt)
+    forms (Q.unlock n) c w = none-at-all (λ kind. opening s kind n)
+
+    well-answer : (q : Request) → Is32 key → Wide q → Well (answer D s q .forms)
+    well-answer (Q.path x x′ sides l) k w =
         let y = fold-up-32 D D32 x sides l (w .0) (w .2) in
-        let y′ = fold-up-32 D D32 x′ sides l (w .1) (w .2) in (
-          (w .0, (y, (w .1, (y′, (hk, tt))))),
-          well-append (foldForms D x′ sides l) (foldForms D x sides l) (well-fold x′ sides l (w .1) (w .2))
-              (well-fold x sides l (w .0) (w .2)),
-        )
-    well-answer (Q.witness x y m) w = ((w .0, (w .1, (hk, tt))), tt)
-    well-answer (Q.join x y x′ y′ m1 z z′ m2) w = (well-u1 x z x′ z′ key (w .0) (w .4) (w .2) (w .5) hk, tt)
-    well-answer (Q.pair x1 y x1′ y′ m1 x2 z x2′ z′ m2) w = (
-      well-u2 x1 x2 (H D y z) x1′ x2′ (H D y′ z′) key (w .0) (w .4) (parent-32 D D32 y z (w .1) (w .5)) (w .2) (w .6)
-          (parent-32 D D32 y′ z′ (w .3) (w .7)) hk,
-      well-append (parentForms y′ z′) (parentForms y z) (well-parent y′ z′ (w .3) (w .7)) (well-parent y z (w .1) (w .5)),
-    )
-    well-answer (Q.raise x1 x2 y x1′ x2′ y′ m1 z z′ m2) w =
-        (well-u2 x1 x2 z x1′ x2′ z′ key (w .0) (w .1) (w .6) (w .3) (w .4) (w .7) hk, tt)
-    well-answer (Q.swap x1 x2 y y′ m) w = ((w .2, (w .3, (hk, tt))), tt)
-    well-answer (Q.first A) w = ((refl, (d32 _, (hk, tt))), ((w, (w, (refl, tt))), tt))
-    well-answer (Q.place A A′ B′ ω y y′ m) w = ((w .4, (w .5, (hk, tt))), tt)
-    well-answer (Q.turn x y m) w = ((w .1, (w .0, (hk, tt))), tt)
-    well-answer (Q.chain x y m1 z m2) w = ((w .0, (w .2, (hk, tt))), tt)
-    well-answer (Q.adopt y y′ m) w = tt
-    well-answer (Q.setTo A A′ old v2 v3 v4 y y′ m) w = tt
-    well-answer (Q.clear A A′ old y y′ m) w = tt
-    well-answer (Q.ask q A A′ r y m) w = tt
-    well-answer (Q.askNone q) w = tt
-    well-answer (Q.unlock k) w = tt
+        let y′ = fold-up-32 D D32 x′ sides l (w .1) (w .2) in
+        (w .0 and y and w .1 and y′ and k and tt)
+        and well-append (foldForms D x′ sides l) (foldForms D x sides l) (well-fold x′ sides l (w .1) (w .2))
+        (well-fold x sides l (w .0) (w .2))
+    well-answer (Q.witness x y m) k w = (w .0 and w .1 and k and tt) and tt
+    well-answer (Q.join x y x′ y′ m1 z z′ m2) k w = (w .0 and w .4 and w .2 and w .5 and k and tt) and tt
+    well-answer (Q.pair x1 y x1′ y′ m1 x2 z x2′ z′ m2) k w =
+        let n = parent-32 D D32 y z (w .1) (w .5) in
+        let n′ = parent-32 D D32 y′ z′ (w .3) (w .7) in
+        (w .0 and w .4 and n and w .2 and w .6 and n′ and k and tt)
+        and well-append (parentForms y′ z′) (parentForms y z) (well-parent y′ z′ (w .3) (w .7)) (well-parent y z (w .1) (w .5))
+    well-answer (Q.raise x1 x2 y x1′ x2′ y′ m1 z z′ m2) k w =
+        (w .0 and w .1 and w .6 and w .3 and w .4 and w .7 and k and tt) and tt
+    well-answer (Q.swap x1 x2 y y′ m) k w = (w .2 and w .3 and k and tt) and tt
+    well-answer (Q.first A) k w = (refl and d32 _ and k and tt) and (w and w and refl and tt) and tt
+    well-answer (Q.place A A′ B′ ω y y′ m) k w = (w .4 and w .5 and k and tt) and tt
+    well-answer (Q.turn x y m) k w = (w .1 and w .0 and k and tt) and tt
+    well-answer (Q.chain x y m1 z m2) k w = (w .0 and w .2 and k and tt) and tt
+    well-answer (Q.adopt y y′ m) k w = tt
+    well-answer (Q.setTo A A′ old v2 v3 v4 y y′ m) k w = tt
+    well-answer (Q.clear A A′ old y y′ m) k w = tt
+    well-answer (Q.ask q A A′ r y m) k w = tt
+    well-answer (Q.askNone q) k w = tt
+    well-answer (Q.unlock n) k w = tt
 
-    well-told : (kind : ℕ) (q : Request) (v : Verdict) → Wide q → Well (formedBy v) → Well (told D s kind q v .formed)
-    well-told kind q (refused n fs) w h = h
-    well-told kind q (passed fs) w h = well-append (answer D s q .forms) fs (well-answer q w) h
+    -- ── a line that is read ──
 
-    pub well-formed : (kind : ℕ) (q : Request) → Next s q → Wide q
-        → Well (told D s kind q (judge late [] (needs D s q)) .formed)
-    well-formed kind q n w =
-        well-told kind q (judge late [] (needs D s q)) w (well-judged late [] (needs D s q) (well-needs q n w) tt)
+    pub closed-forms : (kind : ℕ) (q : Request) → Small (s .counter .0) → Wide q → s .opened ≡ false → answered s kind q .formed ≡ []
+    closed-forms kind q c w o = by-forms (forms q c w)
+      where
+        by-forms : Forms s q → answered s kind q .formed ≡ []
+        by-forms (none-at-all e) = e kind
+        by-forms (of-checks e h) = ap (λ (v : Verdict). told D s kind q v .formed) (e o)
 
--- ── where nothing is formed ──
+    pub well-formed : (kind : ℕ) (q : Request) → Small (s .counter .0) → Is32 key → Wide q → Well (answered s kind q .formed)
+    well-formed kind q c k w = by-forms (forms q c w)
+      where
+        by-verdict : (v : Verdict) → Well (formedBy v) → Well (told D s kind q v .formed)
+        by-verdict (refused n fs) h = h
+        by-verdict (passed fs) h = well-append (answer D s q .forms) fs (well-answer q k w) h
 
--- the checks of some numbers form nothing
-abbrev FormNone : List ℕ → List Check → Type 0
-FormNone [] cs = Unit {0}
-FormNone (n ∷ ns) cs = (formedAt n cs ≡ []) × FormNone ns cs
-
--- one of them fails, or the next one does
-stops : (ns : List ℕ) (n : ℕ) (rest : List ℕ) (cs : List Check) → FormNone ns cs → formedAt n cs ≡ [] → applies n cs ≡ true
-    → (k : ℕ) × (judge (ns ++ (n ∷ rest)) [] cs ≡ refused k [])
-stops [] n rest cs h f a = (n, rw (a, f) refl)
-stops (i ∷ ns) n rest cs h f a = here (applies i cs) (stops ns n rest cs (h .1) f a)
-  where
-    here : (b : Bool) → (k : ℕ) × (judge (ns ++ (n ∷ rest)) [] cs ≡ refused k [])
-        → (k : ℕ) × (pick b (refused i (formedAt i cs ++ [])) (judge (ns ++ (n ∷ rest)) (formedAt i cs ++ []) cs) ≡ refused k [])
-    here true r = (i, rw (h .0) refl)
-    here false r = (r .0, rw (h .0) (r .1))
-
--- a set at the counter's top comes to no string
-pub at-top : (D : List ℕ → Dig) (s : Registers) (kind A A′ : ℕ) (old : Record) (v2 v3 v4 : ℕ) (y y′ m : Dig) → s .counter .0 ≡ top
-    → told D s kind (Q.setTo A A′ old v2 v3 v4 y y′ m) (judge late [] (needs D s (Q.setTo A A′ old v2 v3 v4 y y′ m))) .formed ≡ []
-at-top D s kind A A′ old v2 v3 v4 y y′ m h =
-    let q = Q.setTo A A′ old v2 v3 v4 y y′ m in
-    let before : List ℕ = 13 ∷ 14 ∷ 12 ∷ 4 ∷ 5 ∷ 6 ∷ 11 ∷ [] in
-    let r = stops before 7 (8 ∷ 9 ∷ 10 ∷ []) (needs D s q) (
-      refl,
-      (refl, (refl, (refl, (refl, (refl, (refl, tt)))))),
-    ) refl (rw (eq-eqb (s .counter .0) top h) refl) in
-    ap (λ (v : Verdict). told D s kind q v .formed) (r .1)
-
--- a module that is not open refuses all but an opening, and no string is formed
-pub data Shut (D : List ℕ → Dig) (s : Registers) (kind : ℕ) (q : Request) : Type 0 where
-  refused-13 : told D s kind q (judge late [] (needs D s q)) ≡ told D s kind q (refused 13 []) → Shut D s kind q
-  opening : (k : Dig) → q ≡ Q.unlock k → Shut D s kind q
-
-pub shut : (D : List ℕ → Dig) (s : Registers) (kind : ℕ) (q : Request) → s .opened ≡ false → Shut D s kind q
-shut D s kind (Q.path x x′ sides l) h = refused-13 (rw h refl)
-shut D s kind (Q.witness x y m) h = refused-13 (rw h refl)
-shut D s kind (Q.join x y x′ y′ m1 z z′ m2) h = refused-13 (rw h refl)
-shut D s kind (Q.pair x1 y x1′ y′ m1 x2 z x2′ z′ m2) h = refused-13 (rw h refl)
-shut D s kind (Q.raise x1 x2 y x1′ x2′ y′ m1 z z′ m2) h = refused-13 (rw h refl)
-shut D s kind (Q.swap x1 x2 y y′ m) h = refused-13 (rw h refl)
-shut D s kind (Q.first A) h = refused-13 (rw h refl)
-shut D s kind (Q.place A A′ B′ ω y y′ m) h = refused-13 (rw h refl)
-shut D s kind (Q.turn x y m) h = refused-13 (rw h refl)
-shut D s kind (Q.chain x y m1 z m2) h = refused-13 (rw h refl)
-shut D s kind (Q.adopt y y′ m) h = refused-13 (rw h refl)
-shut D s kind (Q.setTo A A′ old v2 v3 v4 y y′ m) h = refused-13 (rw h refl)
-shut D s kind (Q.clear A A′ old y y′ m) h = refused-13 (rw h refl)
-shut D s kind (Q.ask q A A′ r y m) h = refused-13 (rw h refl)
-shut D s kind (Q.askNone q) h = refused-13 (rw h refl)
-shut D s kind (Q.unlock k) h = opening k refl
+        by-forms : Forms s q → Well (answered s kind q .formed)
+        by-forms (none-at-all e) = subst Well (sym (e kind)) tt
+        by-forms (of-checks e h) = by-verdict (judge late [] (needs D s q)) (well-judged late [] (needs D s q) (h k) tt)

@@ -3,14 +3,12 @@
 use mathlib.Core.Path.{_≡_, refl, sym, ap, subst, _∙_}
 use mathlib.Core.Bool.{Bool, true, false, true≢false}
 use mathlib.Core.List.{List, [], _∷_, _++_}
-use mathlib.Core.Logic.{_⊎_, inl, inr}
 use Prim.Native.Nat.{ℕ, _+_}
 use native.Mathlib.Omega.{arith}
-use borrow.Author.Tests.{eqb-false, eqb-true}
 use lib.Dec.{eqb}
 use lib.ListN.{length}
-use Rattle.seqs.specs.Choose.{pick, either, opposite}
-use Rattle.seqs.specs.Bytes.{Bytes, allZero}
+use Rattle.seqs.specs.Choose.{opposite}
+use Rattle.seqs.specs.Bytes.{Bytes}
 use Rattle.hex.specs.Hex.{bytesOf}
 use Rattle.hex.proofs.Laws.{value-small}
 use Rattle.paper.specs.declared.Registers.{Registers}
@@ -26,7 +24,7 @@ use Rattle.runs.specs.Safety.{Untouched}
 use Rattle.runs.proofs.Accepted.{opposite-false, NoneFails, none-fails, accepted-passed}
 use Rattle.runs.proofs.Lines.{Sorted, early, on-time, sorted}
 use Rattle.runs.proofs.Widths.{Is32, Small, Wide, wide}
-use Rattle.runs.proofs.Formed.{Well, well-append, Next, well-formed, at-top, Shut, refused-13, opening, shut}
+use Rattle.runs.proofs.Formed.{Well, well-append, below-top, answered, closed-forms, well-formed}
 use Rattle.runs.proofs.Book.{entered-none}
 
 -- two digits make a byte
@@ -40,10 +38,6 @@ asked t = requestOf (bytesOf (t .line))
 
 module _ (D : List ℕ → Dig) (D32 : (l : List ℕ) → length (D l) ≡ 32) where
   -- ── the registers after an accepted line ──
-
-  -- a counter below 2 ^ 64 stays so: at its top nothing is set or cleared
-  below-top : (c : ℕ) → Small c → eqb c top ≡ false → Small (c + 1)
-  below-top c h e = omega (arith, eqb-false c top e)
 
   -- an open module has a secret of 32 bytes
   abbrev Keyed : Registers → Type 0
@@ -123,78 +117,19 @@ module _ (D : List ℕ → Dig) (D32 : (l : List ℕ) → length (D l) ≡ 32) w
         closed = λ o. absurd (true≢false (sym (l .opened) ∙ o));
       }
 
-  -- ── the strings of a line that is read ──
-
-  -- an opening forms none
-  opening-forms : (s : Registers) (kind : ℕ) (k : Dig)
-      → told D s kind (Q.unlock k) (judge late [] (needs D s (Q.unlock k))) .formed ≡ []
-  opening-forms s kind k = by-tests (s .opened) (allZero k)
-    where
-      by-tests : (b c : Bool)
-          → told D s kind (Q.unlock k) (pick (either b false) (refused 14 [])
-          (pick (either c false) (refused 12 []) (passed []))) .formed ≡ []
-      by-tests true c = refl
-      by-tests false true = refl
-      by-tests false false = refl
-
-  closed-forms : (s : Registers) (kind : ℕ) (q : Request) → s .opened ≡ false
-      → told D s kind q (judge late [] (needs D s q)) .formed ≡ []
-  closed-forms s kind q o = by-kind (shut D s kind q o)
-    where
-      by-kind : Shut D s kind q → told D s kind q (judge late [] (needs D s q)) .formed ≡ []
-      by-kind (refused-13 e) = ap (λ (a : Told). a .formed) e
-      by-kind (opening k e) =
-          subst (λ (p : Request). told D s kind p (judge late [] (needs D s p)) .formed ≡ []) (sym e) (opening-forms s kind k)
-
-  -- only a set's new record depends on the counter, and at the top it forms none
-  next-or-none : (s : Registers) (kind : ℕ) (q : Request) → Small (s .counter .0)
-      → Next D D32 s q ⊎ (told D s kind q (judge late [] (needs D s q)) .formed ≡ [])
-  next-or-none s kind (Q.path x x′ sides l) c = inl tt
-  next-or-none s kind (Q.witness x y m) c = inl tt
-  next-or-none s kind (Q.join x y x′ y′ m1 z z′ m2) c = inl tt
-  next-or-none s kind (Q.pair x1 y x1′ y′ m1 x2 z x2′ z′ m2) c = inl tt
-  next-or-none s kind (Q.raise x1 x2 y x1′ x2′ y′ m1 z z′ m2) c = inl tt
-  next-or-none s kind (Q.swap x1 x2 y y′ m) c = inl tt
-  next-or-none s kind (Q.first A) c = inl tt
-  next-or-none s kind (Q.place A A′ B′ ω y y′ m) c = inl tt
-  next-or-none s kind (Q.turn x y m) c = inl tt
-  next-or-none s kind (Q.chain x y m1 z m2) c = inl tt
-  next-or-none s kind (Q.adopt y y′ m) c = inl tt
-  next-or-none s kind (Q.setTo A A′ old v2 v3 v4 y y′ m) c = at (eqb (s .counter .0) top) refl
-    where
-      at : (b : Bool) → eqb (s .counter .0) top ≡ b
-          → Small (s .counter .0 + 1)
-          ⊎ (told D s kind (Q.setTo A A′ old v2 v3 v4 y y′ m) (judge late [] (needs D s (Q.setTo A A′ old v2 v3 v4 y y′ m)))
-          .formed ≡ [])
-      at true e = inr (at-top D s kind A A′ old v2 v3 v4 y y′ m (eqb-true (s .counter .0) top e))
-      at false e = inl (below-top (s .counter .0) c e)
-  next-or-none s kind (Q.clear A A′ old y y′ m) c = inl tt
-  next-or-none s kind (Q.ask q A A′ r y m) c = inl tt
-  next-or-none s kind (Q.askNone q) c = inl tt
-  next-or-none s kind (Q.unlock k) c = inl tt
-
-  well-line : (w : World) (kind : ℕ) (q : Request) → Small (w .registers .counter .0) → Keyed (w .registers) → Wide q
-      → Well (told D (w .registers) kind q (judge late [] (needs D (w .registers) q)) .formed)
-  well-line w kind q c k h = by-open (w .registers .opened) refl
-    where
-      by-next : Is32 (w .registers .secret)
-          → Next D D32 (w .registers) q ⊎ (told D (w .registers) kind q (judge late [] (needs D (w .registers) q)) .formed ≡ [])
-          → Well (told D (w .registers) kind q (judge late [] (needs D (w .registers) q)) .formed)
-      by-next hk (inl n) = well-formed D D32 (w .registers) hk kind q n h
-      by-next hk (inr e) = subst Well (sym e) tt
-
-      by-open : (b : Bool) → w .registers .opened ≡ b
-          → Well (told D (w .registers) kind q (judge late [] (needs D (w .registers) q)) .formed)
-      by-open true o = by-next (k o) (next-or-none (w .registers) kind q c)
-      by-open false o = subst Well (sym (closed-forms (w .registers) kind q o)) tt
+  -- ── a line that is read ──
 
   read-side : (by : Reading) (k : Dig) (w : World) (kind : ℕ) (q : Request) → Wide q → Side k w
-      → Side k (landed D by w (told D (w .registers) kind q (judge late [] (needs D (w .registers) q))))
+      → Side k (landed D by w (answered D D32 (w .registers) kind q))
   read-side by k w kind q h v =
-      by-verdict (judge late [] (needs D s q)) refl (well-line w kind q (v .small) (v .keyed) h) (closed-forms s kind q)
+      by-verdict (judge late [] (needs D s q)) refl (by-open (s .opened) refl) (closed-forms D D32 s kind q (v .small) h)
     where
       s : Registers
       s = w .registers
+
+      by-open : (b : Bool) → w .registers .opened ≡ b → Well (answered D D32 (w .registers) kind q .formed)
+      by-open true o = well-formed D D32 (w .registers) kind q (v .small) (v .keyed o) h
+      by-open false o = subst Well (sym (closed-forms D D32 (w .registers) kind q (v .small) h o)) tt
 
       by-verdict : (u : Verdict) → judge late [] (needs D (w .registers) q) ≡ u → Well (told D (w .registers) kind q u .formed)
           → (w .registers .opened ≡ false → told D (w .registers) kind q u .formed ≡ []) → Side k
