@@ -13,8 +13,8 @@ use Rattle.paper.specs.Refusals.{placeForms, leafOf, leafForms, changeForms}
 use Rattle.rings.specs.Trees.{points, Tree, leaves, hashOf, Permuted}
 use Rattle.rings.specs.Lists.{Item, Listed, Unlisted, ring}
 use Rattle.rings.specs.Changes.{Step, removal}
-use Rattle.rings.proofs.Nodes.{_∈_, Within, Fault}
-use Rattle.rings.proofs.Gaps.{Gap, gap-holds}
+use Rattle.rings.proofs.Nodes.{_∈_, Within, Fault, _>>=_}
+use Rattle.rings.proofs.Gaps.{gap-holds}
 use Rattle.rings.proofs.Records.{hashRecord, Known}
 use Rattle.rings.proofs.Memos.{StandsFor, MeansU1, MeansV1, MeansU2, MeansEI, Moved}
 use Rattle.rings.proofs.TreeKinds as T
@@ -102,15 +102,9 @@ module _ (D : List ℕ → Dig) (D32 : (l : List ℕ) → length (D l) ≡ 32) (
       → Within (leafForms D A A′ r) F → MeansV1 digestD F (digestD (leafOf D A A′ r)) y → hashOf D T ≡ y
       → StandsFor digestD F T ls → Fault digestD F ⊎ Found A A′ r ls
   unfolding recordHash hashRecord
-  ask {y} A A′ r T ls w i u e g =
-      go (L.ask digestD A A′ r T ls (known A A′ r w i) (formed A A′ r i) u (sym (hash-is D D32 T) ∙ e) g)
-    where
-      go : Fault digestD F
-          ⊎ (Listed A r ls × ((q : ℕ) → Gap A A′ q → Unlisted q ls) × List·Memᴰ (points A A′ (hashRecord digestD r))
-          (ring (hashRecord digestD) ls))
-          → Fault digestD F ⊎ Found A A′ r ls
-      go (inl f) = inl f
-      go (inr t) = inr (t .0, (λ q k. t .1 q (gap-holds q A A′ k)), t .2)
+  ask A A′ r T ls w i u e g = do
+    t ← L.ask digestD A A′ r T ls (known A A′ r w i) (formed A A′ r i) u (sym (hash-is D D32 T) ∙ e) g
+    inr (t .0, (λ q k. t .1 q (gap-holds q A A′ k)), t .2)
 
   -- 0f ask of none
   pub ask-none : (T : Tree) (ls : List (Item Record)) → hashOf D T ≡ nought → StandsFor digestD F T ls

@@ -23,8 +23,13 @@ Within F G = (s : Str) → s ∈ F → s ∈ G
 -- an ending, or on with what was found
 infixl 1 _>>=_
 pub _>>=_ : {E A B : Type 0} → E ⊎ A → (A → E ⊎ B) → E ⊎ B
-(inl b) >>= f = inl b
+(inl e) >>= f = inl e
 (inr a) >>= f = f a
+
+-- an ending said otherwise
+pub instead : {E E′ A : Type 0} → (E → E′) → E ⊎ A → E′ ⊎ A
+instead f (inl e) = inl (f e)
+instead f (inr a) = inr a
 
 module _ (D : Str → Dig) where
   -- ── the parent, by equality with 0; on digests of 32 bytes it is paper's H (`Bridge`) ──

@@ -11,18 +11,16 @@ use Rattle.seqs.specs.Bytes.{same}
 use Rattle.sha256.specs.Hash.{sha256}
 use Rattle.sha256.proofs.Digests.{sha256-length}
 use Rattle.paper.specs.Strings.{Dig, Str, digest}
-use Rattle.rings.proofs.Nodes.{Within, Fault}
+use Rattle.rings.proofs.Nodes.{Within, _>>=_, instead}
 use Rattle.rings.proofs.Memos.{stands-more}
 use Rattle.rings.proofs.Endings.{fault-shows}
 use Rattle.rings.proofs.InPaper.{same-list}
-use Rattle.runs.specs.Outcomes.{itemsAfter}
-use Rattle.runs.specs.Run.{Turn, Items, Issue, standsFor, isIssued, issuedBy, toldAt, after}
+use Rattle.runs.specs.Run.{Turn, Issue, standsFor, isIssued, issuedBy, toldAt, after}
 use Rattle.runs.specs.Endings.{Ending, collision, zero, forged, earlier}
-use Rattle.runs.specs.Safety.{AllFair, Safe, SafeOrEnded}
-use Rattle.runs.specs.Liveness.{latestFirst, fed, turnsFor, Live, LiveOrEnded}
-use Rattle.runs.specs.Also.{onwards, Shown, RootSettlesList, AnyForged, NoOtherWayOut, Replayed, HonestReplayed, EarliestStays, NotEndedAtFirst, AlsoFor, Also}
-use Rattle.runs.proofs.Formed.{Well, well-at, well-append}
-use Rattle.runs.proofs.Safe.{Core}
+use Rattle.runs.specs.Safety.{Safe, SafeOrEnded}
+use Rattle.runs.specs.Liveness.{turnsFor, LiveOrEnded}
+use Rattle.runs.specs.Also.{onwards, Shown, RootSettlesList, AnyForged, NoOtherWayOut, HonestReplayed, EarliestStays, NotEndedAtFirst, AlsoFor, Also}
+use Rattle.runs.proofs.Formed.{well-at, well-append}
 use Rattle.runs.proofs.Sides.{side}
 use Rattle.runs.proofs.Runs.{run, stands-of, safety}
 use Rattle.runs.proofs.Live.{liveness}
@@ -32,32 +30,16 @@ module _ (D : List ℕ → Dig) (D32 : (l : List ℕ) → length (D l) ≡ 32) w
   -- ── the root settles the list ──
 
   root-settles : RootSettlesList D
-  root-settles k k′ ts us e = by-runs (run D D32 k ts) (run D D32 k′ us)
-    where
-      both : Core D D32 (after D k ts) → Core D D32 (after D k′ us)
-          → Fault (digest D) (after D k ts .formed ++ after D k′ us .formed) ⊎ (after D k ts .items ≡ after D k′ us .items)
-      both c d =
-          same-list D D32 (after D k ts .formed ++ after D k′ us .formed) (c .tree) (d .tree) (after D k ts .items)
-          (after D k′ us .items)
-          (c .root ∙ e ∙ sym (d .root))
-          (stands-more (digest D) (λ s i. Memᴰ·append-left (after D k′ us .formed) i) (c .stands))
-          (stands-more (digest D) (λ s i. Memᴰ·append-right (after D k ts .formed) i) (d .stands))
-
-      well : Well (after D k ts .formed ++ after D k′ us .formed)
-      well = well-append (after D k ts .formed) (after D k′ us .formed) (side D D32 k ts .well) (side D D32 k′ us .well)
-
-      by-list : Fault (digest D) (after D k ts .formed ++ after D k′ us .formed) ⊎ (after D k ts .items ≡ after D k′ us .items)
-          → Shown D (after D k ts .formed ++ after D k′ us .formed) ⊎ (after D k ts .items ≡ after D k′ us .items)
-      by-list (inl f) = inl (fault-shows (λ s i. well-at (after D k ts .formed ++ after D k′ us .formed) s well i) f)
-      by-list (inr x) = inr x
-
-      by-runs : Ending D k ts ⊎ (Core D D32 (after D k ts) × AllFair D k ts)
-          → Ending D k′ us ⊎ (Core D D32 (after D k′ us) × AllFair D k′ us)
-          → (Ending D k ts ⊎ Ending D k′ us)
-          ⊎ (Shown D (after D k ts .formed ++ after D k′ us .formed) ⊎ (after D k ts .items ≡ after D k′ us .items))
-      by-runs (inl x) d = inl (inl x)
-      by-runs (inr c) (inl y) = inl (inr y)
-      by-runs (inr c) (inr d) = inr (by-list (both (c .0) (d .0)))
+  root-settles k k′ ts us e = do
+    let F = after D k ts .formed
+    let G = after D k′ us .formed
+    let well = well-append F G (side D D32 k ts .well) (side D D32 k′ us .well)
+    c ← instead inl (run D D32 k ts)
+    d ← instead inr (run D D32 k′ us)
+    inr (instead (fault-shows (λ s i. well-at (F ++ G) s well i))
+        (same-list D D32 (F ++ G) (c .0 .tree) (d .0 .tree) (after D k ts .items) (after D k′ us .items)
+        (c .0 .root ∙ e ∙ sym (d .0 .root)) (stands-more (digest D) (λ s i. Memᴰ·append-left G i) (c .0 .stands))
+        (stands-more (digest D) (λ s i. Memᴰ·append-right F i) (d .0 .stands))))
 
 -- ── the only ways out ──
 
@@ -81,10 +63,11 @@ module _ (D : List ℕ → Dig) where
   ways-out (forged t f) = inr (inl f)
   ways-out {k} (earlier {ts = ts} t e) = later (ways-out e)
     where
+      more : Within (after D k ts .formed) (after D k (t ∷ ts) .formed)
+      more s i = Memᴰ·append-right (toldAt D (after D k ts) t .formed) i
+
       later : Shown D (after D k ts .formed) ⊎ AnyForged D k ts → Shown D (after D k (t ∷ ts) .formed) ⊎ AnyForged D k (t ∷ ts)
-      later (inl x) = inl
-          (shown-more (after D k ts .formed) (after D k (t ∷ ts) .formed)
-          (λ s i. Memᴰ·append-right (toldAt D (after D k ts) t .formed) i) x)
+      later (inl x) = inl (shown-more (after D k ts .formed) (after D k (t ∷ ts) .formed) more x)
       later (inr x) = inr (inr x)
 
   no-other-way-out : SafeOrEnded D → NoOtherWayOut D
@@ -130,25 +113,15 @@ also-for D D32 =
 -- ── granted wishes, replayed ──
 
 honest-replayed : (D : List ℕ → Dig) → ((l : List ℕ) → length (D l) ≡ 32) → LiveOrEnded D → HonestReplayed D
-honest-replayed D D32 live k ts opened below t x legal = by-live (live k ts opened below)
-  where
-    us : List Turn
-    us = turnsFor D (after D k ts) (t .tree) x
-
-    wanted : Items
-    wanted = itemsAfter (after D k ts .registers) (after D k ts .items) x
-
-    by-run : fed D (latestFirst (after D k ts)) us .items ≡ wanted
-        → Ending D k (onwards us ts) ⊎ (fed D (latestFirst (after D k ts)) us .items ≡ after D k (onwards us ts) .items)
-        → Ending D k (onwards us ts) ⊎ (Core D D32 (after D k (onwards us ts)) × AllFair D k (onwards us ts))
-        → Ending D k (onwards us ts) ⊎ Replayed D k ts us wanted
-    by-run e (inl y) c = inl y
-    by-run e (inr y) (inl c) = inl c
-    by-run e (inr y) (inr c) = inr (record { items = sym y ∙ e; stands = stands-of D D32 (after D k (onwards us ts)) (c .0) })
-
-    by-live : Ending D k ts ⊎ Live D (after D k ts) → Ending D k (onwards us ts) ⊎ Replayed D k ts us wanted
-    by-live (inl e) = inl (ended D D32 k us ts e)
-    by-live (inr l) = by-run (l .grants t x legal .items) (readings-agree D D32 k ts us) (run D D32 k (onwards us ts))
+honest-replayed D D32 live k ts opened below t x legal = do
+  let us = turnsFor D (after D k ts) (t .tree) x
+  l ← instead (ended D D32 k us ts) (live k ts opened below)
+  e ← readings-agree D D32 k ts us
+  c ← run D D32 k (onwards us ts)
+  inr (record {
+    items = sym e ∙ l .grants t x legal .items;
+    stands = stands-of D D32 (after D k (onwards us ts)) (c .0);
+  })
 
 pub also : Also
 also =

@@ -62,10 +62,6 @@ module _ (D : List ℕ → Dig) (w : World) where
     abbrev pub Or : Request → Type 0 → Type 0
     Or q A = (Fault (digest D) G ⊎ Forgery q) ⊎ A
 
-    pub or-fault : {A : Type 0} (q : Request) → Fault (digest D) G ⊎ A → Or q A
-    or-fault q (inl f) = inl (inl f)
-    or-fault q (inr a) = inr a
-
     module _ (b : Book D G (w .book)) where
       -- one that is the digest of a formed string
       taken : (q : Request) (t : Memo) (m : Dig) → List·Memᴰ m (carried q) → memo t key ∈ G → digest D (memo t key) ≡ m

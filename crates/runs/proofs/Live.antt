@@ -1,7 +1,7 @@
 -- Until a run has ended, once open and below the top, every legal wish is granted by its honest lines (demand 3, second half).
 use mathlib.Core.Path.{_≡_, refl, sym, ap, subst, _∙_}
 use mathlib.Core.List.{List, _++_}
-use mathlib.Core.Logic.{_⊎_, inl, inr}
+use mathlib.Core.Logic.{inr}
 use Prim.Native.Nat.{ℕ, _+_, _<_}
 use native.Mathlib.Nat.{mod-lt}
 use native.Mathlib.Omega.{arith}
@@ -14,17 +14,15 @@ use Rattle.paper.specs.Strings.{Dig, recordHash}
 use Rattle.paper.specs.Refusals.{top, nextRecord, clearedRecord}
 use Rattle.rings.specs.Trees.{Tree, leaves, hashOf, Permuted}
 use Rattle.rings.specs.Lists.{Ascending, ring}
+use Rattle.rings.proofs.Nodes.{_>>=_}
 use Rattle.rings.proofs.Items.{insert-ascending, remove-ascending, put-ascending}
 use Rattle.runs.specs.Run.{Items, World, after}
-use Rattle.runs.specs.Endings.{Ending}
-use Rattle.runs.specs.Safety.{AllFair}
 use Rattle.runs.specs.Wishes.{Wish, insertItem, removeItem, swapPlaces, setRecord, clearRecord, askAbout, Legal}
 use Rattle.runs.specs.Honest.{honestLines}
 use Rattle.runs.specs.Outcomes.{itemsAfter, registersAfter, treeAfter}
-use Rattle.runs.specs.Liveness.{latestFirst, lastReply, Answered, turnsFor, Granted, Live, LiveOrEnded, Liveness}
+use Rattle.runs.specs.Liveness.{latestFirst, lastReply, Answered, turnsFor, Granted, LiveOrEnded, Liveness}
 use Rattle.runs.proofs.Parts.{IsDigest, bytes-append}
 use Rattle.runs.proofs.Sizes.{decent}
-use Rattle.runs.proofs.Safe.{Core}
 use Rattle.runs.proofs.Sides.{side}
 use Rattle.runs.proofs.Runs.{run, stands-of}
 use Rattle.runs.proofs.Fed as Fed
@@ -94,25 +92,22 @@ module _ (D : List ℕ → Dig) (D32 : (l : List ℕ) → length (D l) ≡ 32) (
         grants (askAbout q) (w .changed) (a .brings) (g .root) (g .counter) (g .ascending) (g .holds) (a .reply)
 
   live-or-ended : LiveOrEnded D
-  live-or-ended k ts opened below = by-run (run D D32 k ts)
-    where
-      by-run : Ending D k ts ⊎ (Core D D32 (after D k ts) × AllFair D k ts) → Ending D k ts ⊎ Live D (after D k ts)
-      by-run (inl e) = inl e
-      by-run (inr c) =
-          let w = after D k ts in
-          inr (record {
-            stands = stands-of D D32 w (c .0);
-            grants = λ t x h.
-                granted (latestFirst w) (t .tree)
-                (record {
-                  opened = opened;
-                  root = t .root;
-                  ascending = t .ascending;
-                  holds = t .holds;
-                  counter = t .counter;
-                  decent = decent D D32 w (c .0) (side D D32 k ts .well);
-                }) below x h;
-          })
+  live-or-ended k ts opened below = do
+    let w = after D k ts
+    c ← run D D32 k ts
+    inr (record {
+      stands = stands-of D D32 w (c .0);
+      grants = λ t x h.
+          granted (latestFirst w) (t .tree)
+          (record {
+            opened = opened;
+            root = t .root;
+            ascending = t .ascending;
+            holds = t .holds;
+            counter = t .counter;
+            decent = decent D D32 w (c .0) (side D D32 k ts .well);
+          }) below x h;
+    })
 
 -- ── SHA-256 ──
 

@@ -12,12 +12,11 @@ use Rattle.paper.specs.declared.Registers.{Registers}
 use Rattle.paper.specs.Strings.{Dig, Str, digest}
 use Rattle.paper.specs.Answers.{Effect, none′, issues, adopts, changes}
 use Rattle.paper.specs.Module.{Told, answerTo}
-use Rattle.rings.proofs.Nodes.{Fault}
+use Rattle.rings.proofs.Nodes.{Fault, _>>=_, instead}
 use Rattle.rings.proofs.Memos.{StandsFor}
 use Rattle.rings.proofs.InPaper.{same-list}
 use Rattle.runs.specs.Run.{Turn, Issue, Reading, earliest, last, ofRuns, entered, isIssued, World, issuedBy, toldAt, next, after}
 use Rattle.runs.specs.Endings.{Ending, forged, earlier}
-use Rattle.runs.specs.Safety.{AllFair}
 use Rattle.runs.specs.Liveness.{latestFirst, fed}
 use Rattle.runs.specs.Also.{onwards, ReadingsAgree}
 use Rattle.runs.proofs.Book.{Book}
@@ -143,46 +142,23 @@ module _ (D : List ℕ → Dig) (D32 : (l : List ℕ) → length (D l) ≡ 32) w
   core-fed : (k : Dig) (us ts : List Turn) (v : World) → Alike v (after D k ts) → Core D D32 v
       → Ending D k (onwards us ts) ⊎ FedWell k us ts v
   core-fed k [] ts v a c = inr (c, a)
-  core-fed k (t ∷ us) ts v a c =
-      by-next (core-next last k ts v t a c)
-      (core-fed k us (t ∷ ts) (next D last v t) (alike-next D last ofRuns v (after D k ts) t a))
-    where
-      by-next : Ending D k (t ∷ ts) ⊎ Core D D32 (next D last v t)
-          → (Core D D32 (next D last v t) → Ending D k (onwards us (t ∷ ts)) ⊎ FedWell k us (t ∷ ts) (next D last v t))
-          → Ending D k (onwards us (t ∷ ts)) ⊎ FedWell k us (t ∷ ts) (next D last v t)
-      by-next (inl e) f = inl (ended k us (t ∷ ts) e)
-      by-next (inr c′) f = f c′
+  core-fed k (t ∷ us) ts v a c = do
+    c′ ← instead (ended k us (t ∷ ts)) (core-next last k ts v t a c)
+    core-fed k us (t ∷ ts) (next D last v t) (alike-next D last ofRuns v (after D k ts) t a) c′
 
   -- one root, one list
   same-by-root : (k : Dig) (ts : List Turn) (v : World) → Alike v (after D k ts) → Core D D32 v → Core D D32 (after D k ts)
       → Ending D k ts ⊎ (v .items ≡ after D k ts .items)
   same-by-root k ts v a c d =
-      by-list
+      instead (shown D D32 k ts)
       (same-list D D32 (after D k ts .formed) (c .tree) (d .tree) (v .items) (after D k ts .items)
       (c .root ∙ ap (λ (r : Registers). r .root) (a .registers) ∙ sym (d .root))
       (subst (λ (F : List Str). StandsFor (digest D) F (c .tree) (v .items)) (a .formed) (c .stands)) (d .stands))
-    where
-      by-list : Fault (digest D) (after D k ts .formed) ⊎ (v .items ≡ after D k ts .items)
-          → Ending D k ts ⊎ (v .items ≡ after D k ts .items)
-      by-list (inl f) = inl (shown D D32 k ts f)
-      by-list (inr e) = inr e
 
   pub readings-agree : ReadingsAgree D
-  readings-agree k ts us = by-run (run D D32 k ts)
-    where
-      both : FedWell k us ts (latestFirst (after D k ts))
-          → Ending D k (onwards us ts) ⊎ (Core D D32 (after D k (onwards us ts)) × AllFair D k (onwards us ts))
-          → Ending D k (onwards us ts) ⊎ (fed D (latestFirst (after D k ts)) us .items ≡ after D k (onwards us ts) .items)
-      both x (inl e) = inl e
-      both x (inr y) = same-by-root k (onwards us ts) (fed D (latestFirst (after D k ts)) us) (x .1) (x .0) (y .0)
-
-      by-fed : Ending D k (onwards us ts) ⊎ FedWell k us ts (latestFirst (after D k ts))
-          → Ending D k (onwards us ts) ⊎ (fed D (latestFirst (after D k ts)) us .items ≡ after D k (onwards us ts) .items)
-      by-fed (inl e) = inl e
-      by-fed (inr x) = both x (run D D32 k (onwards us ts))
-
-      by-run : Ending D k ts ⊎ (Core D D32 (after D k ts) × AllFair D k ts)
-          → Ending D k (onwards us ts) ⊎ (fed D (latestFirst (after D k ts)) us .items ≡ after D k (onwards us ts) .items)
-      by-run (inl e) = inl (ended k us ts e)
-      by-run (inr c) = by-fed
-          (core-fed k us ts (latestFirst (after D k ts)) (alike-latest (after D k ts)) (core-latest (after D k ts) (c .0)))
+  readings-agree k ts us = do
+    let v = latestFirst (after D k ts)
+    c ← instead (ended k us ts) (run D D32 k ts)
+    x ← core-fed k us ts v (alike-latest (after D k ts)) (core-latest (after D k ts) (c .0))
+    y ← run D D32 k (onwards us ts)
+    same-by-root k (onwards us ts) (fed D v us) (x .1) (x .0) (y .0)

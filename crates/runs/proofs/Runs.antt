@@ -19,14 +19,14 @@ use Rattle.paper.specs.Module.{Told, told}
 use Rattle.paper.proofs.Early.{late, among, numbered, numbered-late}
 use Rattle.paper.proofs.Verdicts.{formedBy}
 use Rattle.rings.specs.Trees.{empty}
-use Rattle.rings.proofs.Nodes.{Fault}
+use Rattle.rings.proofs.Nodes.{Fault, _>>=_, instead}
 use Rattle.paper.specs.Collisions.{Collision}
 use Rattle.rings.specs.Endings.{ZeroDigest}
 use Rattle.rings.proofs.Endings.{fault-shows}
 use Rattle.rings.proofs.InPaper.{holds-ring}
 use Rattle.runs.specs.Run.{Turn, Reading, ofRuns, World, start, toldAt, landed, after}
 use Rattle.runs.specs.Endings.{Ending, collision, zero, forged, earlier}
-use Rattle.runs.specs.Safety.{Stands, TrueAnswer, LegalEffect, AllFair, Safe, SafeOrEnded, Safety}
+use Rattle.runs.specs.Safety.{Stands, TrueAnswer, LegalEffect, AllFair, SafeOrEnded, Safety}
 use Rattle.runs.proofs.Accepted.{none-fails, formedAll, judge-passed, accepted-passed, check-formed}
 use Rattle.runs.proofs.Lines.{Sorted, early, on-time, sorted}
 use Rattle.runs.proofs.Widths.{Wide, wide}
@@ -161,19 +161,15 @@ module _ (D : List ℕ → Dig) (D32 : (l : List ℕ) → length (D l) ≡ 32) w
 
   pub run : (k : Dig) (ts : List Turn) → Ending D k ts ⊎ (Core D D32 (after D k ts) × AllFair D k ts)
   run k [] = inr (core-start k, tt)
-  run k (t ∷ ts) = on (run k ts)
+  run k (t ∷ ts) = do
+    x ← instead (earlier t) (run k ts)
+    y ← instead ends (line-out ofRuns (after D k ts) t (x .0))
+    inr (y .0, (record { true-answer = y .1; replied = replied (after D k ts) t; legal = y .2 }, x .1))
     where
-      land : AllFair D k ts → Out ofRuns (after D k ts) (asked t) (toldAt D (after D k ts) t)
-          → Ending D k (t ∷ ts) ⊎ (Core D D32 (after D k (t ∷ ts)) × AllFair D k (t ∷ ts))
-      land f (inl (inl x)) = inl (shown k (t ∷ ts) x)
-      land f (inl (inr x)) =
-          inl (forged t (record { accepted = x .0; memorandum = x .1 .0; carries = x .1 .1; unissued = x .1 .2 }))
-      land f (inr x) = inr (x .0, (record { true-answer = x .1; replied = replied (after D k ts) t; legal = x .2 }, f))
-
-      on : Ending D k ts ⊎ (Core D D32 (after D k ts) × AllFair D k ts)
-          → Ending D k (t ∷ ts) ⊎ (Core D D32 (after D k (t ∷ ts)) × AllFair D k (t ∷ ts))
-      on (inl e) = inl (earlier t e)
-      on (inr x) = land (x .1) (line-out ofRuns (after D k ts) t (x .0))
+      ends : Fault (digest D) (after D k (t ∷ ts) .formed) ⊎ ((toldAt D (after D k ts) t .refusal ≡ 0) × Forgery D (after D k ts)
+          (asked t)) → Ending D k (t ∷ ts)
+      ends (inl f) = shown k (t ∷ ts) f
+      ends (inr x) = forged t (record { accepted = x .0; memorandum = x .1 .0; carries = x .1 .1; unissued = x .1 .2 })
 
   pub stands-of : (w : World) → Core D D32 w → Stands D w
   stands-of w c =
@@ -186,12 +182,9 @@ module _ (D : List ℕ → Dig) (D32 : (l : List ℕ) → length (D l) ≡ 32) w
       }
 
 safe-or-ended : (D : List ℕ → Dig) → ((l : List ℕ) → length (D l) ≡ 32) → SafeOrEnded D
-safe-or-ended D D32 k ts = on (run D D32 k ts)
-  where
-    on : Ending D k ts ⊎ (Core D D32 (after D k ts) × AllFair D k ts) → Ending D k ts ⊎ Safe D k ts
-    on (inl e) = inl e
-    on (inr x) =
-        inr (record { stands = stands-of D D32 (after D k ts) (x .0); fair = x .1; closed = side D D32 k ts .closed })
+safe-or-ended D D32 k ts = do
+  x ← run D D32 k ts
+  inr (record { stands = stands-of D D32 (after D k ts) (x .0); fair = x .1; closed = side D D32 k ts .closed })
 
 pub safety : Safety
 safety = record { at-sha256 = safe-or-ended sha256 sha256-length; at-any = safe-or-ended }

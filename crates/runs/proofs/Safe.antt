@@ -3,7 +3,7 @@
 use mathlib.Core.Path.{_≡_, refl, sym, ap, subst, _∙_}
 use mathlib.Core.Bool.{Bool, true, false, true≢false}
 use mathlib.Core.List.{List, [], _∷_, _++_, List·Memᴰ, List·Memᴰ·tail, Memᴰ·append-left, Memᴰ·append-right}
-use mathlib.Core.Logic.{inr}
+use mathlib.Core.Logic.{inl, inr}
 use Prim.Native.Nat.{ℕ, _+_}
 use native.Mathlib.Omega.{arith}
 use borrow.Author.Tests.{eqb-true, eqb-false, ne-eqb}
@@ -22,7 +22,7 @@ use Rattle.paper.specs.Module.{Told, told}
 use Rattle.paper.specs.declared.Finding.the-variants.{Recorded, Listed, Gap}
 use Rattle.rings.specs.Trees.{Tree, hashOf}
 use Rattle.rings.specs.Lists.{item}
-use Rattle.rings.proofs.Nodes.{_∈_, Within, _>>=_}
+use Rattle.rings.proofs.Nodes.{_∈_, Within, _>>=_, instead}
 use Rattle.rings.proofs.Memos.{Means, StandsFor, stands-more}
 use Rattle.rings.proofs.Records.{Known, known-empty, known-recorded}
 use Rattle.rings.proofs.Bridge.{hash-is, known-by}
@@ -36,7 +36,7 @@ use Rattle.runs.specs.Safety.{TrueFinding, TrueAnswer, LegalEffect}
 use Rattle.runs.proofs.Book.{entered-none, Book, book-more, book-enter}
 use Rattle.runs.proofs.Accepted.{opposite-false}
 use Rattle.runs.proofs.Carried as C
-use Rattle.runs.proofs.Carried.{at0, at1, at2, at5, at6, Given, Or, or-fault}
+use Rattle.runs.proofs.Carried.{at0, at1, at2, at5, at6, Given, Or}
 
 -- a well formed record with revision 0 is the empty one
 blank-empty : (r : Record) → blank r ≡ true → malformed r ≡ false → r ≡ clearedRecord
@@ -161,7 +161,7 @@ module _ (D : List ℕ → Dig) (D32 : (l : List ℕ) → length (D l) ≡ 32) w
     changed {q} g A A′ old new y y′ m i forms ok ok′ fit r e₁ e₂ e₃ tr full = do
       let t = changeSays D A A′ old new y y′
       u ← C.means D w (G q) (backed q) q t m i (forms _ (Memᴰ·append-right (changeForms D A A′ old new) at0)) fit
-      p ← or-fault D w (G q) q (P.put D D32 (G q) A A′ old new (v .tree) (w .items) ok ok′ (λ x j. forms x (Memᴰ·append-left _ j)) u
+      p ← instead inl (P.put D D32 (G q) A A′ old new (v .tree) (w .items) ok ok′ (λ x j. forms x (Memᴰ·append-left _ j)) u
           (at-root y r) (standing q))
       inr (
         record {
@@ -238,7 +238,7 @@ module _ (D : List ℕ → Dig) (D32 : (l : List ℕ) → length (D l) ≡ 32) w
     accepted (Q.adopt y y′ m) g = do
       let q = Q.adopt y y′ m
       u ← means g (ei y y′) m at0 at1 at0 (g .none-fails .1 .0)
-      p ← or-fault D w (G q) q (P.adopt D D32 (G q) (v .tree) (w .items) u (at-root y (g .none-fails .1 .1 .0)) (standing q))
+      p ← instead inl (P.adopt D D32 (G q) (v .tree) (w .items) u (at-root y (g .none-fails .1 .1 .0)) (standing q))
       inr (
         record {
           tree = p .tree;
@@ -264,7 +264,7 @@ module _ (D : List ℕ → Dig) (D32 : (l : List ℕ) → length (D l) ≡ 32) w
       let t = v1 (dig (leafOf D A A′ r)) y
       let forms : Within (leafForms D A A′ r ++ tried D key (t ∷ []) m) (G q) = g .of-check _ at6
       u ← means g t m at0 at6 (Memᴰ·append-right (leafForms D A A′ r) at0) (h .1 .1 .0)
-      f ← or-fault D w (G q) q (P.ask D D32 (G q) A A′ r (v .tree) (w .items) (h .0) (λ x i. forms x (Memᴰ·append-left _ i)) u
+      f ← instead inl (P.ask D D32 (G q) A A′ r (v .tree) (w .items) (h .0) (λ x i. forms x (Memᴰ·append-left _ i)) u
           (at-root y (h .1 .1 .1 .0)) (standing q))
       inr (
         kept-core by w (a q) refl refl refl v,
@@ -273,7 +273,7 @@ module _ (D : List ℕ → Dig) (D32 : (l : List ℕ) → length (D l) ≡ 32) w
       )
     accepted (Q.askNone n) g = do
       let q = Q.askNone n
-      f ← or-fault D w (G q) q
+      f ← instead inl
           (P.ask-none D D32 (G q) (v .tree) (w .items) (at-root nought (g .none-fails .1 .1 .0)) (standing q))
       inr (kept-core by w (a q) refl refl refl v, f, tt)
     accepted (Q.unlock k) g = inr (kept-core by w (a (Q.unlock k)) refl refl refl v, tt, tt)
