@@ -1,13 +1,13 @@
 -- Lines that end in an EI put first into the book, and what follows on them: turn, which reverses it, and adopt, which does
 -- it. Since the EI stands first, it is read as the line that issued it last meant it.
-use mathlib.Core.Path.{_≡_, refl, sym, ap, subst, _∙_}
+use mathlib.Core.Path.{_≡_, refl, ap, subst}
 use mathlib.Core.Bool.{Bool, true, false}
 use mathlib.Core.List.{List, [], _∷_, _++_}
 use Prim.Native.Nat.{ℕ, _<_}
 use native.Mathlib.Omega.{arith}
 use borrow.Author.Tests.{ne-eqb}
 use lib.Dec.{eqb}
-use Rattle.seqs.specs.Choose.{pick, opposite}
+use Rattle.seqs.specs.Choose.{pick, opposite, _and_}
 use Rattle.seqs.specs.Bytes.{same, same-refl}
 use Rattle.paper.specs.declared.Registers.{Registers}
 use Rattle.paper.specs.Strings.{Dig, nought, Memo, Str, leaf, enc, memo, inGap}
@@ -17,9 +17,8 @@ use Rattle.paper.specs.Refusals.{noneFits, placeSays, needs}
 use Rattle.paper.specs.Answers as Does
 use Rattle.paper.specs.Answers.{Change, rooted, issue, answer}
 use Rattle.rings.specs.Changes.{Step, insertion, removal, doSteps, reversed}
-use Rattle.runs.specs.Run.{last, Issue, meaning, World, next}
+use Rattle.runs.specs.Run.{Issue, meaning, World}
 use Rattle.runs.specs.Endings.{carried}
-use Rattle.runs.specs.Frames.{turnOf}
 use Rattle.runs.specs.Ways.{Way, Fork, leftOne, rightOne, Edit}
 use Rattle.runs.specs.Honest.{sayU2, sayEI, turned, note, turnRound, takeOver, relinked, gone, onLeftFoot, onRightFoot, without, placed, alone}
 use Rattle.runs.specs.Liveness.{AllIssued}
@@ -28,7 +27,7 @@ use Rattle.runs.proofs.Widths.{Small}
 use Rattle.runs.proofs.Parts.{IsDigest}
 use Rattle.runs.proofs.Frames.{Sendable}
 use Rattle.runs.proofs.Climbs.{nought-digest, IsEdit, risen-two-is}
-use Rattle.runs.proofs.Fed.{at, run, Fair, run-append, fair-append, fair-one, lands, issued-first, note-fits, note-fits-second, head-issued, head-stands, Got, Brings}
+use Rattle.runs.proofs.Fed.{at, Leads, leads-on, leads-one, issued-first, note-fits, note-fits-second, head-issued, head-stands, Brings, brings-also, brings}
 use Rattle.runs.proofs.Reach.{is-open, two-places}
 
 pub not-zero : (n : ℕ) → 0 < n → eqb n 0 ≡ false
@@ -43,26 +42,19 @@ module _ (D : List ℕ → Dig) (DD : (l : List ℕ) → IsDigest (D l)) where
   pub record Heads (w : World) (qs : List Request) (t : Memo) (c : List Step) : Type 0 where
     pub formed : List Str
     pub book : List Issue
-    pub ends : run D w qs ≡ at w formed (record { memorandum = note D (w .registers) t; does = c } ∷ book)
-    pub fair : Fair D w qs
+    pub leads : Leads D w qs (at w formed (record { memorandum = note D (w .registers) t; does = c } ∷ book))
 
   pub heads-line : (w : World) (q : Request) (shown : List ℕ) (before : List Str) (t : Memo) (c : Change) → Sendable q
       → NoneFails (needs D (w .registers) q) → AllIssued (carried q) (w .book)
       → answer D (w .registers) q ≡ issue D (w .registers) shown before t c → Heads w (q ∷ []) t (meaning (w .book) c)
   heads-line w q shown before t c ok n i e =
-      let r = issued-first D w q ok n shown before t c e in
-      record { formed = r .0; book = w .book; ends = r .1; fair = fair-one D w q ok n i [] tt }
+      let r = issued-first D w q ok n i shown before t c e in
+      record { formed = r .0; book = w .book; leads = r .1 }
 
-  -- after other lines
-  pub heads-after : {w : World} {a b : List Request} {t u : Memo} {c : List Step} (g : Got D w a t)
-      → Heads (at w (g .formed) (g .book)) b u c → Heads w (a ++ b) u c
-  heads-after {w} {a} {b} g h =
-      record {
-        formed = h .formed;
-        book = h .book;
-        ends = run-append D w a b ∙ ap (λ (v : World). run D v b) (g .ends) ∙ h .ends;
-        fair = fair-append D w a b (g .fair) (subst (λ (v : World). Fair D v b) (sym (g .ends)) (h .fair));
-      }
+  -- behind other lines that change nothing but the book
+  pub heads-behind : {w : World} {a b : List Request} {u : Memo} {c : List Step} {F : List Str} {B : List Issue}
+      → Leads D w a (at w F B) → Heads (at w F B) b u c → Heads w (a ++ b) u c
+  heads-behind g h = record { formed = h .formed; book = h .book; leads = leads-on D g (h .leads) }
 
   module _ (w : World) (o : w .registers .opened ≡ true) where
     abbrev s : Registers
@@ -80,16 +72,10 @@ module _ (D : List ℕ → Dig) (DD : (l : List ℕ) → IsDigest (D l)) where
         let q = turnRound D s y in
         let b : List Issue = record { memorandum = m; does = c } ∷ h .book in
         let v = at w (h .formed) b in
-        let k = heads-line v q [] [] (sayEI (turned y)) (Does.reverses m) (hy .old, (hy .new, (digest-of (sayEI y), tt)))
-        (is-open D DD w o, (note-fits D (s .secret) (sayEI y) [], tt)) (head-issued D m c (h .book), tt) refl in
-        let k′ : Heads v (q ∷ []) (sayEI (turned y)) (reversed c) =
-        subst (λ (d : List Step). Heads v (q ∷ []) (sayEI (turned y)) (reversed d)) (head-stands D m c (h .book)) k in
-        record {
-          formed = k′ .formed;
-          book = k′ .book;
-          ends = run-append D w qs (q ∷ []) ∙ ap (λ (u : World). run D u (q ∷ [])) (h .ends) ∙ k′ .ends;
-          fair = fair-append D w qs (q ∷ []) (h .fair) (subst (λ (u : World). Fair D u (q ∷ [])) (sym (h .ends)) (k′ .fair));
-        }
+        heads-behind (h .leads)
+        (subst (λ (d : List Step). Heads v (q ∷ []) (sayEI (turned y)) (reversed d)) (head-stands D m c (h .book))
+        (heads-line v q [] [] (sayEI (turned y)) (Does.reverses m) (hy .old and hy .new and digest-of (sayEI y) and tt)
+        (is-open D DD w o and note-fits D (s .secret) (sayEI y) [] and tt) (head-issued D m c (h .book), tt) refl))
 
     -- ── 0b adopt ──
 
@@ -100,20 +86,12 @@ module _ (D : List ℕ → Dig) (DD : (l : List ℕ) → IsDigest (D l)) where
         let q = takeOver D s y in
         let b : List Issue = record { memorandum = m; does = c } ∷ h .book in
         let v = at w (h .formed) b in
-        let ok : Sendable q = (hy .old, (hy .new, (digest-of (sayEI y), tt))) in
-        let n : NoneFails (needs D s q) =
-        (is-open D DD w o, (note-fits D (s .secret) (sayEI y) [], (at-root (y .was) (s .root) e, tt))) in
-        let to-v : run D w (qs ++ (q ∷ [])) ≡ next D last v (turnOf q) =
-        run-append D w qs (q ∷ []) ∙ ap (λ (u : World). run D u (q ∷ [])) (h .ends) in
-        let end = to-v ∙ lands D v q ok n in
-        let fair-q : Fair D v (q ∷ []) = fair-one D v q ok n (head-issued D m c (h .book), tt) [] tt in
-        record {
-          fair = fair-append D w qs (q ∷ []) (h .fair) (subst (λ (u : World). Fair D u (q ∷ [])) (sym (h .ends)) fair-q);
-          registers-are = ap (λ (u : World). u .registers) end;
-          items-are = ap (λ (u : World). u .items) end ∙ ap (λ (d : List Step). doSteps d (w .items))
-              (head-stands D m c (h .book));
-          changed-are = ap (λ (u : World). u .changed) end;
-        }
+        let e′ = ap (λ (b : List Step). doSteps b (w .items)) (head-stands D m c (h .book)) in
+        brings-also D refl refl e′
+        (brings D (leads-on D (h .leads)
+        (leads-one D v q (hy .old and hy .new and digest-of (sayEI y) and tt)
+        (is-open D DD w o and note-fits D (s .secret) (sayEI y) [] and at-root (y .was) (s .root) e and tt)
+        (head-issued D m c (h .book), tt))))
 
     -- ── 07 first ──
 
@@ -180,7 +158,7 @@ module _ (D : List ℕ → Dig) (DD : (l : List ℕ) → IsDigest (D l)) where
         let hy = without-is f B A B′ ω in
         let t = sayU2 a b y in
         let g = two-places D DD w o (w .formed) (w .book) f a b (h .0) (h .1) in
-        heads-after g
+        heads-behind (g .leads)
         (heads-line (at w (g .formed) (g .book)) (Q.place B A B′ ω (y .was) (y .becomes) (note D s t)) [] [] (sayEI y)
         (Does.removes A)
         (sB, sA, sB′, (hω, (hy .old, (hy .new, (digest-of t, tt)))))

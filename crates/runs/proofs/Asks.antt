@@ -11,7 +11,7 @@ use lib.ListN.{length}
 use Rattle.seqs.specs.Choose.{either-yes, _and_}
 use Rattle.paper.specs.declared.Record.{Record}
 use Rattle.paper.specs.declared.Registers.{Registers}
-use Rattle.paper.specs.Strings.{Dig, nought, v1, u1, Memo, enc, memo, digest, recordHash, H}
+use Rattle.paper.specs.Strings.{Dig, nought, v1, u1, Memo, Str, enc, memo, digest, recordHash, H}
 use Rattle.paper.specs.Requests as Q
 use Rattle.paper.specs.Requests.{Request}
 use Rattle.paper.specs.Refusals.{leafOf, needs}
@@ -24,7 +24,7 @@ use Rattle.rings.proofs.Gaps.{gap-holds, gap-tells}
 use Rattle.rings.proofs.Items.{listed?}
 use Rattle.rings.proofs.Ring.{gap-free}
 use Rattle.rings.proofs.Find.{item-leaf, spot}
-use Rattle.runs.specs.Run.{Items, last, World, toldAt, next}
+use Rattle.runs.specs.Run.{Items, last, Issue, World, toldAt, next}
 use Rattle.runs.specs.Frames.{turnOf, turnsOf}
 use Rattle.runs.specs.Ways.{itemOf, nextOf, hashIn, tellsOf, has, found, wayTo, rise}
 use Rattle.runs.specs.Honest.{recordOf, note, onePlace, leafLines, askLines}
@@ -36,7 +36,7 @@ use Rattle.runs.proofs.Parts.{IsDigest}
 use Rattle.runs.proofs.Frames.{Sendable}
 use Rattle.runs.proofs.Climbs.{rise-digest}
 use Rattle.runs.proofs.Sizes.{record-is, Decent}
-use Rattle.runs.proofs.Fed.{at, run, told-is, note-fits, Got, then, Brings, after-got, brings-one}
+use Rattle.runs.proofs.Fed.{at, run, told-is, Leads, leads-on, leads-one, note-fits, Got, then, Brings, brings}
 use Rattle.runs.proofs.Reach.{is-open, one-place, witness-line}
 use Rattle.runs.proofs.Adopts.{not-zero, at-root}
 use Rattle.runs.proofs.Standing.{Ground, spot-by, spotted, item-digest}
@@ -84,15 +84,15 @@ module _ (D : List ℕ → Dig) (DD : (l : List ℕ) → IsDigest (D l)) (w : Wo
     pub reply : TrueReply D q (w .items) (lastReply D w (turnsOf qs))
 
   -- behind lines that change nothing
-  answers-last : {a : List Request} {t : Memo} (q : ℕ) (h : Got D w a t) (p : Request)
-      → Brings D (at w (h .formed) (h .book)) (p ∷ []) s (w .items) (w .changed)
+  answers-last : {a : List Request} {t : Memo} {F : List Str} {b : List Issue} (q : ℕ) (h : Got D w a t) (p : Request)
+      → Leads D (at w (h .formed) (h .book)) (p ∷ []) (at w F b)
       → TrueReply D q (w .items) (toldAt D (at w (h .formed) (h .book)) (turnOf p) .says) → Answers q (a ++ (p ∷ []))
-  answers-last {a} q h p b t =
+  answers-last {a} q h p l t =
       record {
-        brings = after-got D h b;
+        brings = brings D (leads-on D (h .leads) l);
         reply =
             subst (TrueReply D q (w .items))
-            (sym (last-is D w a p ∙ ap (λ (v : World). toldAt D v (turnOf p) .says) (h .ends))) t;
+            (sym (last-is D w a p ∙ ap (λ (v : World). toldAt D v (turnOf p) .says) (h .leads .to))) t;
       }
 
   module _ (D32 : (l : List ℕ) → length (D l) ≡ 32) (q : ℕ) (small : Small q) (positive : 0 < q) where
@@ -133,7 +133,7 @@ module _ (D : List ℕ → Dig) (DD : (l : List ℕ) → IsDigest (D l)) (w : Wo
         ) in
         subst (Answers q)
         (append-assoc (onePlace D s p (record { was = x; becomes = x })) (Q.witness x y (note D s (u1 x y x y)) ∷ []) (a ∷ []))
-        (answers-last q h a (brings-one D v a ok n (h .got, tt))
+        (answers-last q h a (leads-one D v a ok n (h .got, tt))
         (finding (findingOf q A A′ r) true-of (ap (λ (u : Told). u .says) (told-is D v a ok n))))
       where
         at-z : (z : Leaf) (v : Dig) → v ≡ hashIn z → z ≡ points (itemOf z) (nextOf z) v
@@ -146,7 +146,7 @@ module _ (D : List ℕ → Dig) (DD : (l : List ℕ) → IsDigest (D l)) (w : Wo
         let n : NoneFails (needs D s a) =
         (is-open D DD w (g .opened), (not-zero q positive, (at-root nought (s .root) empty-root, tt))) in
         record {
-          brings = brings-one D w a small n tt;
+          brings = brings D (leads-one D w a small n tt);
           reply = nothing-listed e (ap (λ (u : Told). u .says) (told-is D w a small n));
         }
 

@@ -14,7 +14,7 @@ use Rattle.paper.specs.Refusals.{replyRoom, noneFits, needs, passed, judge}
 use Rattle.paper.specs.Answers.{Change, Answer, issue, answer}
 use Rattle.paper.specs.Module.{Told, told}
 use Rattle.rings.specs.Changes.{Step}
-use Rattle.runs.specs.Run.{Items, last, Issue, standsFor, isIssued, meaning, World, replayed, counted, toldAt, landed, next}
+use Rattle.runs.specs.Run.{Items, last, Issue, standsFor, isIssued, meaning, World, toldAt, landed, next}
 use Rattle.runs.specs.Endings.{carried}
 use Rattle.runs.specs.Frames.{written, frameOf, turnOf, turnsOf}
 use Rattle.runs.specs.Honest.{note}
@@ -36,13 +36,23 @@ module _ (D : List ℕ → Dig) where
   abbrev pub Fair : World → List Request → Type 0
   Fair w qs = Honest D w (turnsOf qs)
 
-  pub run-append : (w : World) (a b : List Request) → run w (a ++ b) ≡ run (run w a) b
-  run-append w [] b = refl
-  run-append w (q ∷ a) b = run-append (next D last w (turnOf q)) a b
+  -- honest lines that lead from one world to another
+  pub record Leads (w : World) (qs : List Request) (v : World) : Type 0 where
+    pub to : run w qs ≡ v
+    pub fair : Fair w qs
 
-  pub fair-append : (w : World) (a b : List Request) → Fair w a → Fair (run w a) b → Fair w (a ++ b)
-  fair-append w [] b h k = k
-  fair-append w (q ∷ a) b h k = (h .0, h .1, fair-append (next D last w (turnOf q)) a b (h .2) k)
+  -- one after the other
+  run-after : {v : World} (w : World) (a b : List Request) → run w a ≡ v → run w (a ++ b) ≡ run v b
+  run-after w [] b e = ap (λ (v : World). run v b) e
+  run-after w (q ∷ a) b e = run-after (next D last w (turnOf q)) a b e
+
+  fair-after : {v : World} (w : World) (a b : List Request) → run w a ≡ v → Fair w a → Fair v b → Fair w (a ++ b)
+  fair-after w [] b e h k = subst (λ (v : World). Fair v b) (sym e) k
+  fair-after w (q ∷ a) b e h k = (h .0, h .1, fair-after (next D last w (turnOf q)) a b e (h .2) k)
+
+  pub leads-on : {w v u : World} {a b : List Request} → Leads w a v → Leads v b u → Leads w (a ++ b) u
+  leads-on {w} {a = a} {b = b} g h =
+      record { to = run-after w a b (g .to) ∙ h .to; fair = fair-after w a b (g .to) (g .fair) (h .fair) }
 
   -- ── one line ──
 
@@ -66,31 +76,39 @@ module _ (D : List ℕ → Dig) where
         ∙ ap (told D s (written q .kind) q) (judge-passed late [] (needs D s q) (all-pass late (needs D s q) n))
 
     -- the line is accepted and honest, and the world after it is the one that its answer leaves
-    pub fair-one : NoneFails (needs D s q) → AllIssued (carried q) (w .book) → (qs : List Request)
-        → Fair (next D last w (turnOf q)) qs → Fair w (q ∷ qs)
-    fair-one n i qs h =
-        (ap (λ (a : Told). a .refusal) (told-is n), subst (λ (p : Request). AllIssued (carried p) (w .book)) (sym asked-is) i, h)
-
-    pub lands : NoneFails (needs D s q)
-        → next D last w (turnOf q) ≡ landed D last w (told D s (written q .kind) q (passed (formedAll late [] (needs D s q))))
-    lands n = ap (landed D last w) (told-is n)
+    pub leads-one : NoneFails (needs D s q) → AllIssued (carried q) (w .book)
+        → Leads w (q ∷ []) (landed D last w (told D s (written q .kind) q (passed (formedAll late [] (needs D s q)))))
+    leads-one n i =
+        record {
+          to = ap (landed D last w) (told-is n);
+          fair = (
+            ap (λ (a : Told). a .refusal) (told-is n),
+            subst (λ (p : Request). AllIssued (carried p) (w .book)) (sym asked-is) i,
+            tt,
+          );
+        }
 
     -- a memorandum issued stands first in the book
-    pub issued-first : NoneFails (needs D s q) → (shown : List ℕ) (before : List Str) (t : Memo) (c : Change)
-        → answer D s q ≡ issue D s shown before t c
+    pub issued-first : NoneFails (needs D s q) → AllIssued (carried q) (w .book)
+        → (shown : List ℕ) (before : List Str) (t : Memo) (c : Change) → answer D s q ≡ issue D s shown before t c
         → (F : List Str)
-        × (next D last w (turnOf q) ≡ at w F (record { memorandum = note D s t; does = meaning (w .book) c } ∷ w .book))
-    issued-first n shown before t c e =
-        let fs = formedAll late [] (needs D s q) in (
+        × Leads w (q ∷ []) (at w F (record { memorandum = note D s t; does = meaning (w .book) c } ∷ w .book))
+    issued-first n i shown before t c e =
+        let fs = formedAll late [] (needs D s q) in
+        let l = leads-one n i in (
           ((memo t (s .secret) ∷ before) ++ fs) ++ w .formed,
-          lands n
-              ∙ ap (λ (a : Answer). landed D last w (record {
-                refusal = 0;
-                says = (0x80 + written q .kind) ∷ a .lists;
-                after = a .after;
-                formed = a .forms ++ fs;
-                effect = a .effect;
-              })) e,
+          record {
+            to =
+                l .to
+                ∙ ap (λ (a : Answer). landed D last w (record {
+                  refusal = 0;
+                  says = (0x80 + written q .kind) ∷ a .lists;
+                  after = a .after;
+                  formed = a .forms ++ fs;
+                  effect = a .effect;
+                })) e;
+            fair = l .fair;
+          },
         )
 
   -- ── memoranda ──
@@ -118,8 +136,7 @@ module _ (D : List ℕ → Dig) where
   pub record Got (w : World) (qs : List Request) (t : Memo) : Type 0 where
     pub formed : List Str
     pub book : List Issue
-    pub ends : run w qs ≡ at w formed book
-    pub fair : Fair w qs
+    pub leads : Leads w qs (at w formed book)
     pub keeps : (m : Dig) → isIssued m (w .book) ≡ true → isIssued m book ≡ true
     pub got : isIssued (note D (w .registers) t) book ≡ true
 
@@ -129,12 +146,11 @@ module _ (D : List ℕ → Dig) where
   -- one after the other
   pub then : {w : World} {a b : List Request} {t u : Memo} (g : Got w a t) → Got (at w (g .formed) (g .book)) b u
       → Got w (a ++ b) u
-  then {w} {a} {b} g h =
+  then g h =
       record {
         formed = h .formed;
         book = h .book;
-        ends = run-append w a b ∙ ap (λ (v : World). run v b) (g .ends) ∙ h .ends;
-        fair = fair-append w a b (g .fair) (subst (λ (v : World). Fair v b) (sym (g .ends)) (h .fair));
+        leads = leads-on (g .leads) (h .leads);
         keeps = λ m i. h .keeps m (g .keeps m i);
         got = h .got;
       }
@@ -144,12 +160,11 @@ module _ (D : List ℕ → Dig) where
       → NoneFails (needs D (w .registers) q) → AllIssued (carried q) (w .book)
       → answer D (w .registers) q ≡ issue D (w .registers) shown before t c → Got w (q ∷ []) t
   say w q shown before t c ok n i e =
-      let r = issued-first w q ok n shown before t c e in
+      let r = issued-first w q ok n i shown before t c e in
       record {
         formed = r .0;
         book = _;
-        ends = r .1;
-        fair = fair-one w q ok n i [] tt;
+        leads = r .1;
         keeps = λ m j. rw (j, either-yes) refl;
         got = head-issued (note D (w .registers) t) (meaning (w .book) c) (w .book);
       }
@@ -162,32 +177,19 @@ module _ (D : List ℕ → Dig) where
     pub items-are : run w qs .items ≡ l
     pub changed-are : run w qs .changed ≡ n
 
-  -- the same lines and registers, otherwise written
-  pub brings-also : {w : World} {qs qs′ : List Request} {s′ s″ : Registers} {l : Items} {n : ℕ} → qs ≡ qs′ → s′ ≡ s″
-      → Brings w qs s′ l n → Brings w qs′ s″ l n
-  brings-also {w} {qs} {qs′} {s′} {s″} {l} {n} e f b =
-      subst (λ (x : Registers). Brings w qs′ x l n) f (subst (λ (x : List Request). Brings w x s′ l n) e b)
+  -- the same, otherwise written
+  pub brings-also : {w : World} {qs qs′ : List Request} {s′ s″ : Registers} {l l′ : Items} {n : ℕ} → qs ≡ qs′ → s′ ≡ s″ → l ≡ l′
+      → Brings w qs s′ l n → Brings w qs′ s″ l′ n
+  brings-also {w} {qs} {qs′} {s′} {s″} {l} {l′} {n} e f g b =
+      subst (λ (x : Items). Brings w qs′ s″ x n) g
+      (subst (λ (x : Registers). Brings w qs′ x l n) f (subst (λ (x : List Request). Brings w x s′ l n) e b))
 
-  pub after-got : {w : World} {a b : List Request} {t : Memo} {s′ : Registers} {l : Items} {n : ℕ} (g : Got w a t)
-      → Brings (at w (g .formed) (g .book)) b s′ l n → Brings w (a ++ b) s′ l n
-  after-got {w} {a} {b} g h =
-      let e : run w (a ++ b) ≡ run (at w (g .formed) (g .book)) b = run-append w a b ∙ ap (λ (v : World). run v b) (g .ends) in
+  -- by the world that they lead to
+  pub brings : {w v : World} {qs : List Request} → Leads w qs v → Brings w qs (v .registers) (v .items) (v .changed)
+  brings h =
       record {
-        fair = fair-append w a b (g .fair) (subst (λ (v : World). Fair v b) (sym (g .ends)) (h .fair));
-        registers-are = ap (λ (v : World). v .registers) e ∙ h .registers-are;
-        items-are = ap (λ (v : World). v .items) e ∙ h .items-are;
-        changed-are = ap (λ (v : World). v .changed) e ∙ h .changed-are;
-      }
-
-  -- one line
-  pub brings-one : (w : World) (q : Request) → Sendable q → NoneFails (needs D (w .registers) q) → AllIssued (carried q) (w .book)
-      → (let a = answer D (w .registers) q in
-      Brings w (q ∷ []) (a .after) (replayed D w (a .effect)) (counted D w (a .effect)))
-  brings-one w q ok n i =
-      let end = lands w q ok n in
-      record {
-        fair = fair-one w q ok n i [] tt;
-        registers-are = ap (λ (v : World). v .registers) end;
-        items-are = ap (λ (v : World). v .items) end;
-        changed-are = ap (λ (v : World). v .changed) end;
+        fair = h .fair;
+        registers-are = ap (λ (u : World). u .registers) (h .to);
+        items-are = ap (λ (u : World). u .items) (h .to);
+        changed-are = ap (λ (u : World). u .changed) (h .to);
       }

@@ -30,7 +30,7 @@ use Rattle.runs.proofs.Climbs.{record-digest, tree-digest, IsEdit, rise
 use Rattle.runs.proofs.Places.{plug-two, rise-plug, rise-two, located, Forks, forked, regrown-one, regrown-two}
 use Rattle.runs.proofs.Fed.{at, note-fits, Brings, brings-also}
 use Rattle.runs.proofs.Reach.{is-open, two-places}
-use Rattle.runs.proofs.Adopts.{heads-line, heads-after, turn-last, adopt-last, alone-is, first-line, feet-are, without-is, place-lines}
+use Rattle.runs.proofs.Adopts.{heads-line, heads-behind, turn-last, adopt-last, alone-is, first-line, feet-are, without-is, place-lines}
 use Rattle.runs.proofs.Asks.{none-hash}
 use Rattle.runs.proofs.Standing.{Ground, leaf-digest, once, spot-by, spotted, of-item}
 
@@ -111,12 +111,12 @@ module _ (D : List ℕ → Dig) (DD : (l : List ℕ) → IsDigest (D l)) (w : Wo
       let t = sayU2 a b y in
       let q = Q.swap (a .was) (b .was) (y .was) (y .becomes) (note D s t) in
       let u = two-places D DD w (g .opened) (w .formed) (w .book) f a b (h .0) (h .1) in
-      let k = heads-after D DD u
+      let k = heads-behind D DD (u .leads)
       (heads-line D DD (at w (u .formed) (u .book)) q [] [] (sayEI y) Does.nothing
       (h .0 .old, (h .1 .old, (hy .old, (hy .new, (DD (enc (memo t (s .secret))), tt)))))
       (is-open D DD w (g .opened), (fits-by-side (f .left) (f .right) (f .above) (f .crossed) e, tt)) (u .got, tt) refl) in
       let r = adopt-last D DD w (g .opened) (twoPlaces D s f a b ++ (q ∷ [])) y [] hy was-root k in
-      brings-also D (append-assoc (twoPlaces D s f a b) (q ∷ []) (takeOver D s y ∷ [])) (ap (rooted s) becomes-root) r
+      brings-also D (append-assoc (twoPlaces D s f a b) (q ∷ []) (takeOver D s y ∷ [])) (ap (rooted s) becomes-root) refl r
 
   -- ── insert ──
 
@@ -159,7 +159,7 @@ module _ (D : List ℕ → Dig) (DD : (l : List ℕ) → IsDigest (D l)) (w : Wo
       let grown : y .was ≡ hashOf D (treeWith D A T (i ∷ l)) =
       rise-plug D p X ∙ ap (hashOf D) (sym (regrown-one x X p T (located (gapHolds A) T have .under-way) (once D DD w T g x))) in
       brings-also D (append-assoc (placed D s f B A B′ ω) (turnRound D s y ∷ []) (takeOver D s (turned y) ∷ []))
-      (ap (rooted s) grown) r
+      (ap (rooted s) grown) refl r
 
   -- the leaf whose gap holds an unlisted number
   pub gap-found : (A a : ℕ) (r : Record) (l : Items) → 0 < A → Unlisted A (w .items) → w .items ≡ item a r ∷ l

@@ -87,7 +87,7 @@ module _ (D : List ℕ → Dig) (DD : (l : List ℕ) → IsDigest (D l)) (w : Wo
   -- ── up a way ──
 
   got-already : (F : List Str) (b : List Issue) (t : Memo) → isIssued (note D s t) b ≡ true → Got D (at w F b) [] t
-  got-already F b t i = record { formed = F; book = b; ends = refl; fair = tt; keeps = λ m j. j; got = i }
+  got-already F b t i = record { formed = F; book = b; leads = record { to = refl; fair = tt }; keeps = λ m j. j; got = i }
 
   further-up : (ps : List Way) (x y : Edit) (F : List Str) (b : List Issue) → AllShort ps → IsEdit x → IsEdit y
       → isIssued (note D s (sayU1 x y)) b ≡ true → Got D (at w F b) (further D s x y ps) (sayU1 x (risen D (whole ps) y))

@@ -198,7 +198,7 @@ module _ (D : List ℕ → Dig) (DD : (l : List ℕ) → IsDigest (D l)) (w : Wo
       (sym (regrown-two x X z empty (other-leaf A k) f T (fork-of A k) (once D DD w T g x) (once D DD w T g z))) in
       let h = place-lines D DD w (g .opened) f B A B′ ω (dB .small) (dA .small) (tz .next-small) hω (dB .positive) (dA .positive)
       (tz .next-positive) (k .gap) in
-      brings-also D refl (ap (rooted s) shrunk)
+      brings-also D refl (ap (rooted s) shrunk) refl
       (adopt-last D DD w (g .opened) (placed D s f B A B′ ω) y (removal A ∷ []) (without-is D DD w (g .opened) f B A B′ ω) root h)
 
   pub remove-brings : (A : ℕ) → Listed A clearedRecord (w .items)

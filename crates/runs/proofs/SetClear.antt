@@ -25,7 +25,7 @@ use Rattle.runs.proofs.Parts.{IsDigest, AllDigests}
 use Rattle.runs.proofs.Climbs.{rise-digest}
 use Rattle.runs.proofs.Places.{rise-plug, located, regrown-one}
 use Rattle.runs.proofs.Sizes.{record-is, Decent}
-use Rattle.runs.proofs.Fed.{at, note-fits, Got, Brings, brings-also, after-got, brings-one}
+use Rattle.runs.proofs.Fed.{at, note-fits, Got, Brings, brings-also, leads-on, leads-one, brings}
 use Rattle.runs.proofs.Reach.{is-open, one-place}
 use Rattle.runs.proofs.Adopts.{not-zero, at-root}
 use Rattle.runs.proofs.Standing.{Ground, Spotted, once, spotted, of-item, item-digest}
@@ -91,13 +91,13 @@ module _ (D : List ℕ → Dig) (DD : (l : List ℕ) → IsDigest (D l)) (w : Wo
   set-brings A v2 v3 v4 r m s2 s3 s4 below =
       let u = rewrites A r (nextRecord s v2 v3 v4) m in
       let h = u .lines in
-      brings-also D refl (ap (raised s) (u .new-root))
-      (after-got D h
-      (brings-one D (at w (h .formed) (h .book)) (Q.setTo A _ _ v2 v3 v4 _ _ _)
+      brings-also D refl (ap (raised s) (u .new-root)) refl
+      (brings D (leads-on D (h .leads)
+      (leads-one D (at w (h .formed) (h .book)) (Q.setTo A _ _ v2 v3 v4 _ _ _)
       (u .item .small, u .spot .next-small, u .item .small-record, s2, s3, s4, u .digests)
       (is-open D DD w (g .opened) and u .numbered and u .next-numbered and u .item .sound and below-top (s .counter .0) below
       and u .fits and u .at-root and tt)
-      (h .got, tt)))
+      (h .got, tt))))
 
   pub clear-brings : (A : ℕ) (r : Record) → Listed A r (w .items) → blank r ≡ false → s .counter .0 < top
       → Brings D w (clearLines D s A T (w .items)) (raised s (hashOf D (treeRewritten D A clearedRecord T)))
@@ -105,10 +105,10 @@ module _ (D : List ℕ → Dig) (DD : (l : List ℕ) → IsDigest (D l)) (w : Wo
   clear-brings A r m recorded below =
       let u = rewrites A r clearedRecord m in
       let h = u .lines in
-      brings-also D refl (ap (raised s) (u .new-root))
-      (after-got D h
-      (brings-one D (at w (h .formed) (h .book)) (Q.clear A _ _ _ _ _)
+      brings-also D refl (ap (raised s) (u .new-root)) refl
+      (brings D (leads-on D (h .leads)
+      (leads-one D (at w (h .formed) (h .book)) (Q.clear A _ _ _ _ _)
       (u .item .small, u .spot .next-small, u .item .small-record, u .digests)
       (is-open D DD w (g .opened) and u .numbered and u .next-numbered and u .item .sound
       and (ap blank (u .record-same) ∙ recorded) and below-top (s .counter .0) below and u .fits and u .at-root and tt)
-      (h .got, tt)))
+      (h .got, tt))))
