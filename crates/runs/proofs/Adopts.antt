@@ -10,7 +10,7 @@ use lib.Dec.{eqb}
 use Rattle.seqs.specs.Choose.{pick, opposite, _and_}
 use Rattle.seqs.specs.Bytes.{same, same-refl}
 use Rattle.paper.specs.declared.Registers.{Registers}
-use Rattle.paper.specs.Strings.{Dig, nought, Memo, Str, leaf, enc, memo, inGap}
+use Rattle.paper.specs.Strings.{Dig, nought, Memo, Str, leaf, inGap}
 use Rattle.paper.specs.Requests as Q
 use Rattle.paper.specs.Requests.{Request}
 use Rattle.paper.specs.Refusals.{noneFits, placeSays, needs}
@@ -28,7 +28,7 @@ use Rattle.runs.proofs.Parts.{IsDigest}
 use Rattle.runs.proofs.Frames.{Sendable}
 use Rattle.runs.proofs.Climbs.{nought-digest, IsEdit, risen-two-is}
 use Rattle.runs.proofs.Fed.{at, Leads, leads-on, leads-one, issued-first, note-fits, note-fits-second, head-issued, head-stands, Brings, brings-also, brings}
-use Rattle.runs.proofs.Reach.{is-open, two-places}
+use Rattle.runs.proofs.Reach.{Ready, is-open, note-digest, fits-own, two-places}
 
 pub not-zero : (n : ℕ) → 0 < n → eqb n 0 ≡ false
 not-zero n h = ne-eqb n 0 (λ e. omega arith)
@@ -37,7 +37,7 @@ not-zero n h = ne-eqb n 0 (λ e. omega arith)
 pub at-root : (y r : Dig) → y ≡ r → opposite (same y r) ≡ false
 at-root y r e = rw (e, same-refl r) refl
 
-module _ (D : List ℕ → Dig) (DD : (l : List ℕ) → IsDigest (D l)) where
+module _ (D : List ℕ → Dig) where
   -- lines that change nothing but the book, whose first entry then is a memorandum that stands for the steps c
   pub record Heads (w : World) (qs : List Request) (t : Memo) (c : List Step) : Type 0 where
     pub formed : List Str
@@ -56,111 +56,111 @@ module _ (D : List ℕ → Dig) (DD : (l : List ℕ) → IsDigest (D l)) where
       → Leads D w a (at w F B) → Heads (at w F B) b u c → Heads w (a ++ b) u c
   heads-behind g h = record { formed = h .formed; book = h .book; leads = leads-on D g (h .leads) }
 
-  module _ (w : World) (o : w .registers .opened ≡ true) where
-    abbrev s : Registers
-    s = w .registers
+module _ {D : List ℕ → Dig} {w : World} (r : Ready D w) where
+  abbrev s : Registers
+  s = w .registers
 
-    abbrev digest-of : (t : Memo) → IsDigest (note D s t)
-    digest-of t = DD (enc (memo t (s .secret)))
+  abbrev DD : (l : List ℕ) → IsDigest (D l)
+  DD = r .digests
 
-    -- ── 09 turn ──
+  -- ── 09 turn ──
 
-    pub turn-last : (qs : List Request) (y : Edit) (c : List Step) → IsEdit y → Heads w qs (sayEI y) c
-        → Heads w (qs ++ (turnRound D s y ∷ [])) (sayEI (turned y)) (reversed c)
-    turn-last qs y c hy h =
-        let m = note D s (sayEI y) in
-        let q = turnRound D s y in
-        let b : List Issue = record { memorandum = m; does = c } ∷ h .book in
-        let v = at w (h .formed) b in
-        heads-behind (h .leads)
-        (subst (λ (d : List Step). Heads v (q ∷ []) (sayEI (turned y)) (reversed d)) (head-stands D m c (h .book))
-        (heads-line v q [] [] (sayEI (turned y)) (Does.reverses m) (hy .old and hy .new and digest-of (sayEI y) and tt)
-        (is-open D DD w o and note-fits D (s .secret) (sayEI y) [] and tt) (head-issued D m c (h .book), tt) refl))
+  pub turn-last : (qs : List Request) (y : Edit) (c : List Step) → IsEdit y → Heads D w qs (sayEI y) c
+      → Heads D w (qs ++ (turnRound D s y ∷ [])) (sayEI (turned y)) (reversed c)
+  turn-last qs y c hy h =
+      let m = note D s (sayEI y) in
+      let q = turnRound D s y in
+      let b : List Issue = record { memorandum = m; does = c } ∷ h .book in
+      let v = at w (h .formed) b in
+      heads-behind D (h .leads)
+      (subst (λ (d : List Step). Heads D v (q ∷ []) (sayEI (turned y)) (reversed d)) (head-stands D m c (h .book))
+      (heads-line D v q [] [] (sayEI (turned y)) (Does.reverses m) (hy .old and hy .new and note-digest r (sayEI y) and tt)
+      (is-open r and fits-own r (sayEI y) and tt) (head-issued D m c (h .book), tt) refl))
 
-    -- ── 0b adopt ──
+  -- ── 0b adopt ──
 
-    pub adopt-last : (qs : List Request) (y : Edit) (c : List Step) → IsEdit y → y .was ≡ s .root → Heads w qs (sayEI y) c
-        → Brings D w (qs ++ (takeOver D s y ∷ [])) (rooted s (y .becomes)) (doSteps c (w .items)) (w .changed)
-    adopt-last qs y c hy e h =
-        let m = note D s (sayEI y) in
-        let q = takeOver D s y in
-        let b : List Issue = record { memorandum = m; does = c } ∷ h .book in
-        let v = at w (h .formed) b in
-        let e′ = ap (λ (b : List Step). doSteps b (w .items)) (head-stands D m c (h .book)) in
-        brings-also D refl refl e′
-        (brings D (leads-on D (h .leads)
-        (leads-one D v q (hy .old and hy .new and digest-of (sayEI y) and tt)
-        (is-open D DD w o and note-fits D (s .secret) (sayEI y) [] and at-root (y .was) (s .root) e and tt)
-        (head-issued D m c (h .book), tt))))
+  pub adopt-last : (qs : List Request) (y : Edit) (c : List Step) → IsEdit y → y .was ≡ s .root → Heads D w qs (sayEI y) c
+      → Brings D w (qs ++ (takeOver D s y ∷ [])) (rooted s (y .becomes)) (doSteps c (w .items)) (w .changed)
+  adopt-last qs y c hy e h =
+      let m = note D s (sayEI y) in
+      let q = takeOver D s y in
+      let b : List Issue = record { memorandum = m; does = c } ∷ h .book in
+      let v = at w (h .formed) b in
+      let e′ = ap (λ (b : List Step). doSteps b (w .items)) (head-stands D m c (h .book)) in
+      brings-also D refl refl e′
+      (brings D (leads-on D (h .leads)
+      (leads-one D v q (hy .old and hy .new and note-digest r (sayEI y) and tt)
+      (is-open r and fits-own r (sayEI y) and at-root (y .was) (s .root) e and tt)
+      (head-issued D m c (h .book), tt))))
 
-    -- ── 07 first ──
+  -- ── 07 first ──
 
-    pub alone-is : (A : ℕ) → IsEdit (alone D s A)
-    alone-is A = record { old = nought-digest; new = DD _ }
+  pub alone-is : (A : ℕ) → IsEdit (alone D s A)
+  alone-is A = record { old = nought-digest; new = DD _ }
 
-    pub first-line : (A : ℕ) → Small A → 0 < A → Heads w (Q.first A ∷ []) (sayEI (alone D s A)) (insertion A ∷ [])
-    first-line A small positive =
-        heads-line w (Q.first A) [] (leaf A A nought ∷ []) (sayEI (alone D s A)) (Does.adds A) small
-        (is-open D DD w o, (not-zero A positive, tt)) tt refl
+  pub first-line : (A : ℕ) → Small A → 0 < A → Heads D w (Q.first A ∷ []) (sayEI (alone D s A)) (insertion A ∷ [])
+  first-line A small positive =
+      heads-line D w (Q.first A) [] (leaf A A nought ∷ []) (sayEI (alone D s A)) (Does.adds A) small
+      (is-open r, (not-zero A positive, tt)) tt refl
 
-    -- ── 08 place ──
+  -- ── 08 place ──
 
-    -- what U2 says is one of the two things that place asks for, in the order tried
-    abbrev inOrder : (B A B′ : ℕ) (ω : Dig) (y : Edit) → Memo
-    inOrder B A B′ ω y = sayU2 (relinked D s B A B′ ω) (gone D s A B′) y
+  -- what U2 says is one of the two things that place asks for, in the order tried
+  abbrev inOrder : (B A B′ : ℕ) (ω : Dig) (y : Edit) → Memo
+  inOrder B A B′ ω y = sayU2 (relinked D s B A B′ ω) (gone D s A B′) y
 
-    abbrev otherOrder : (B A B′ : ℕ) (ω : Dig) (y : Edit) → Memo
-    otherOrder B A B′ ω y = sayU2 (gone D s A B′) (relinked D s B A B′ ω) y
+  abbrev otherOrder : (B A B′ : ℕ) (ω : Dig) (y : Edit) → Memo
+  otherOrder B A B′ ω y = sayU2 (gone D s A B′) (relinked D s B A B′ ω) y
 
-    abbrev PlaceFits : Fork → (B A B′ : ℕ) (ω : Dig) → Type 0
-    PlaceFits f B A B′ ω =
-        let y = without D s f B A B′ ω in
-        noneFits D (s .secret) (placeSays D B A B′ ω (y .was) (y .becomes))
-        (note D s (sayU2 (onLeftFoot D s f B A B′ ω) (onRightFoot D s f B A B′ ω) y))
-        ≡ false
+  abbrev PlaceFits : Fork → (B A B′ : ℕ) (ω : Dig) → Type 0
+  PlaceFits f B A B′ ω =
+      let y = without D s f B A B′ ω in
+      noneFits D (s .secret) (placeSays D B A B′ ω (y .was) (y .becomes))
+      (note D s (sayU2 (onLeftFoot D s f B A B′ ω) (onRightFoot D s f B A B′ ω) y))
+      ≡ false
 
-    fits-by-side : (l r a : Way) (c : Bool) (B A B′ : ℕ) (ω : Dig)
-        → PlaceFits (record { left = l; right = r; above = a; crossed = c }) B A B′ ω
-    fits-by-side l r a true B A B′ ω =
-        let y = without D s (record { left = l; right = r; above = a; crossed = true }) B A B′ ω in
-        note-fits-second D (s .secret) (inOrder B A B′ ω y) (otherOrder B A B′ ω y)
-    fits-by-side l r a false B A B′ ω =
-        let y = without D s (record { left = l; right = r; above = a; crossed = false }) B A B′ ω in
-        note-fits D (s .secret) (inOrder B A B′ ω y) (otherOrder B A B′ ω y ∷ [])
+  fits-by-side : (l r a : Way) (c : Bool) (B A B′ : ℕ) (ω : Dig)
+      → PlaceFits (record { left = l; right = r; above = a; crossed = c }) B A B′ ω
+  fits-by-side l r a true B A B′ ω =
+      let y = without D s (record { left = l; right = r; above = a; crossed = true }) B A B′ ω in
+      note-fits-second D (s .secret) (inOrder B A B′ ω y) (otherOrder B A B′ ω y)
+  fits-by-side l r a false B A B′ ω =
+      let y = without D s (record { left = l; right = r; above = a; crossed = false }) B A B′ ω in
+      note-fits D (s .secret) (inOrder B A B′ ω y) (otherOrder B A B′ ω y ∷ [])
 
-    place-fits : (f : Fork) (B A B′ : ℕ) (ω : Dig) → PlaceFits f B A B′ ω
-    place-fits f B A B′ ω = fits-by-side (f .left) (f .right) (f .above) (f .crossed) B A B′ ω
+  place-fits : (f : Fork) (B A B′ : ℕ) (ω : Dig) → PlaceFits f B A B′ ω
+  place-fits f B A B′ ω = fits-by-side (f .left) (f .right) (f .above) (f .crossed) B A B′ ω
 
-    -- edits at the feet of a fork
-    pub feet-are : (f : Fork) (a b : Edit) → IsEdit a → IsEdit b → IsEdit (leftOne f a b) × IsEdit (rightOne f a b)
-    feet-are f a b h k = by-side (f .crossed)
-      where
-        by-side : (c : Bool) → IsEdit (pick c b a) × IsEdit (pick c a b)
-        by-side true = (k, h)
-        by-side false = (h, k)
+  -- edits at the feet of a fork
+  pub feet-are : (f : Fork) (a b : Edit) → IsEdit a → IsEdit b → IsEdit (leftOne f a b) × IsEdit (rightOne f a b)
+  feet-are f a b h k = by-side (f .crossed)
+    where
+      by-side : (c : Bool) → IsEdit (pick c b a) × IsEdit (pick c a b)
+      by-side true = (k, h)
+      by-side false = (h, k)
 
-    place-feet : (f : Fork) (B A B′ : ℕ) (ω : Dig) → IsEdit (onLeftFoot D s f B A B′ ω) × IsEdit (onRightFoot D s f B A B′ ω)
-    place-feet f B A B′ ω =
-        feet-are f (relinked D s B A B′ ω) (gone D s A B′) (record { old = DD _; new = DD _ })
-        (record { old = DD _; new = nought-digest })
+  place-feet : (f : Fork) (B A B′ : ℕ) (ω : Dig) → IsEdit (onLeftFoot D s f B A B′ ω) × IsEdit (onRightFoot D s f B A B′ ω)
+  place-feet f B A B′ ω =
+      feet-are f (relinked D s B A B′ ω) (gone D s A B′) (record { old = DD _; new = DD _ })
+      (record { old = DD _; new = nought-digest })
 
-    pub without-is : (f : Fork) (B A B′ : ℕ) (ω : Dig) → IsEdit (without D s f B A B′ ω)
-    without-is f B A B′ ω = let h = place-feet f B A B′ ω in risen-two-is D DD f _ _ (h .0) (h .1)
+  pub without-is : (f : Fork) (B A B′ : ℕ) (ω : Dig) → IsEdit (without D s f B A B′ ω)
+  without-is f B A B′ ω = let h = place-feet f B A B′ ω in risen-two-is DD f _ _ (h .0) (h .1)
 
-    -- U2 and place
-    pub place-lines : (f : Fork) (B A B′ : ℕ) (ω : Dig) → Small B → Small A → Small B′ → IsDigest ω → 0 < B → 0 < A → 0 < B′
-        → inGap A B B′ ≡ true → Heads w (placed D s f B A B′ ω) (sayEI (without D s f B A B′ ω)) (removal A ∷ [])
-    place-lines f B A B′ ω sB sA sB′ hω pB pA pB′ gap =
-        let a = onLeftFoot D s f B A B′ ω in
-        let b = onRightFoot D s f B A B′ ω in
-        let h = place-feet f B A B′ ω in
-        let y = without D s f B A B′ ω in
-        let hy = without-is f B A B′ ω in
-        let t = sayU2 a b y in
-        let g = two-places D DD w o (w .formed) (w .book) f a b (h .0) (h .1) in
-        heads-behind (g .leads)
-        (heads-line (at w (g .formed) (g .book)) (Q.place B A B′ ω (y .was) (y .becomes) (note D s t)) [] [] (sayEI y)
-        (Does.removes A)
-        (sB, sA, sB′, (hω, (hy .old, (hy .new, (digest-of t, tt)))))
-        (is-open D DD w o, (not-zero B pB, (not-zero A pA, (not-zero B′ pB′, (rw gap refl, (place-fits f B A B′ ω, tt))))))
-        (g .got, tt) refl)
+  -- U2 and place
+  pub place-lines : (f : Fork) (B A B′ : ℕ) (ω : Dig) → Small B → Small A → Small B′ → IsDigest ω → 0 < B → 0 < A → 0 < B′
+      → inGap A B B′ ≡ true → Heads D w (placed D s f B A B′ ω) (sayEI (without D s f B A B′ ω)) (removal A ∷ [])
+  place-lines f B A B′ ω sB sA sB′ hω pB pA pB′ gap =
+      let a = onLeftFoot D s f B A B′ ω in
+      let b = onRightFoot D s f B A B′ ω in
+      let h = place-feet f B A B′ ω in
+      let y = without D s f B A B′ ω in
+      let hy = without-is f B A B′ ω in
+      let t = sayU2 a b y in
+      let g = two-places r (w .formed) (w .book) f a b (h .0) (h .1) in
+      heads-behind D (g .leads)
+      (heads-line D (at w (g .formed) (g .book)) (Q.place B A B′ ω (y .was) (y .becomes) (note D s t)) [] [] (sayEI y)
+      (Does.removes A)
+      (sB, sA, sB′, (hω, (hy .old, (hy .new, (note-digest r t, tt)))))
+      (is-open r, (not-zero B pB, (not-zero A pA, (not-zero B′ pB′, (rw gap refl, (place-fits f B A B′ ω, tt))))))
+      (g .got, tt) refl)

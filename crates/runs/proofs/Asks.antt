@@ -7,11 +7,10 @@ use mathlib.Core.Logic.{_⊎_, inl, inr}
 use Prim.Native.Nat.{ℕ, _<_}
 use native.Mathlib.Omega.{arith}
 use borrow.Author.Tests.{eq-eqb}
-use lib.ListN.{length}
 use Rattle.seqs.specs.Choose.{either-yes, _and_}
 use Rattle.paper.specs.declared.Record.{Record}
 use Rattle.paper.specs.declared.Registers.{Registers}
-use Rattle.paper.specs.Strings.{Dig, nought, v1, u1, Memo, Str, enc, memo, digest, recordHash, H}
+use Rattle.paper.specs.Strings.{Dig, nought, v1, u1, Memo, Str, digest, recordHash, H}
 use Rattle.paper.specs.Requests as Q
 use Rattle.paper.specs.Requests.{Request}
 use Rattle.paper.specs.Refusals.{leafOf, needs}
@@ -36,8 +35,8 @@ use Rattle.runs.proofs.Parts.{IsDigest}
 use Rattle.runs.proofs.Frames.{Sendable}
 use Rattle.runs.proofs.Climbs.{rise-digest}
 use Rattle.runs.proofs.Sizes.{record-is, Decent}
-use Rattle.runs.proofs.Fed.{at, run, told-is, Leads, leads-on, leads-one, note-fits, Got, then, Brings, brings}
-use Rattle.runs.proofs.Reach.{is-open, one-place, witness-line}
+use Rattle.runs.proofs.Fed.{at, run, told-is, Leads, leads-on, leads-one, Got, then, Brings, brings}
+use Rattle.runs.proofs.Reach.{is-open, note-digest, fits-own, one-place, witness-line}
 use Rattle.runs.proofs.Adopts.{not-zero, at-root}
 use Rattle.runs.proofs.Standing.{Ground, spot-by, spotted, item-digest}
 
@@ -59,9 +58,12 @@ module _ (D : List ℕ → Dig) where
       let q = none-hash r (λ x. omega (arith, f x, count-append x (leaves l) (leaves r))) in
       (λ i. H D (p i) (q i))
 
-module _ (D : List ℕ → Dig) (DD : (l : List ℕ) → IsDigest (D l)) (w : World) (T : Tree) (g : Ground D w T) where
+module _ {D : List ℕ → Dig} {w : World} {T : Tree} (g : Ground D w T) where
   abbrev s : Registers
   s = w .registers
+
+  abbrev DD : (l : List ℕ) → IsDigest (D l)
+  DD = g .ready .digests
 
   -- ── a leaf that tells of q ──
 
@@ -72,10 +74,10 @@ module _ (D : List ℕ → Dig) (DD : (l : List ℕ) → IsDigest (D l)) (w : Wo
       by-list : Unlisted q (w .items) ⊎ ((t : Record) × Listed q t (w .items)) → has (tellsOf q) T ≡ true
       by-list (inr t) =
           let i = item-leaf (recordHash D) q (t .0) (w .items) (g .ascending) (t .1) in
-          spot-by D DD w T g (tellsOf q) (points q (i .0) (recordHash D (t .0))) (rw (eq-eqb q q refl) refl) (i .2)
+          spot-by g (tellsOf q) (points q (i .0) (recordHash D (t .0))) (rw (eq-eqb q q refl) refl) (i .2)
       by-list (inl u) =
           let i = spot (recordHash D) q a r l h (rw e at (g .ascending)) (rw e at u) in
-          spot-by D DD w T g (tellsOf q) (points (i .a) (i .b) (i .w)) (rw (gap-tells (i .gap), either-yes) refl) (rw e (i .on))
+          spot-by g (tellsOf q) (points (i .a) (i .b) (i .w)) (rw (gap-tells (i .gap), either-yes) refl) (rw e (i .on))
 
   -- ── what a question comes to ──
 
@@ -95,10 +97,10 @@ module _ (D : List ℕ → Dig) (DD : (l : List ℕ) → IsDigest (D l)) (w : Wo
             (sym (last-is D w a p ∙ ap (λ (v : World). toldAt D v (turnOf p) .says) (h .leads .to))) t;
       }
 
-  module _ (D32 : (l : List ℕ) → length (D l) ≡ 32) (q : ℕ) (small : Small q) (positive : 0 < q) where
+  module _ (q : ℕ) (small : Small q) (positive : 0 < q) where
     by-leaf : has (tellsOf q) T ≡ true → Answers q (leafLines D s q T (w .items))
     by-leaf have =
-        let t = spotted D DD w T g (tellsOf q) have in
+        let t = spotted g (tellsOf q) have in
         let z = found (tellsOf q) T in
         let A = itemOf z in
         let A′ = nextOf z in
@@ -108,25 +110,25 @@ module _ (D : List ℕ → Dig) (DD : (l : List ℕ) → IsDigest (D l)) (w : Wo
         let x = digest D (leafOf D A A′ r) in
         let p = wayTo (tellsOf q) T in
         let y = rise D p x in
-        let e : y ≡ s .root = ap (rise D p) (item-digest D DD w T g A (t .held) (t .listed) (tellsOf q) t refl) ∙ t .to-root in
-        let hy = rise-digest D DD p x (DD _) in
-        let h₁ = one-place D DD w (g .opened) (w .formed) (w .book) p (record { was = x; becomes = x })
+        let e : y ≡ s .root = ap (rise D p) (item-digest g A (t .held) (t .listed) (tellsOf q) t refl) ∙ t .to-root in
+        let hy = rise-digest DD p x (DD _) in
+        let h₁ = one-place (g .ready) (w .formed) (w .book) p (record { was = x; becomes = x })
         (record { old = DD _; new = DD _ }) in
-        let h₂ = witness-line D DD w (g .opened) (h₁ .formed) (h₁ .book) x y (DD _) hy (h₁ .got) in
+        let h₂ = witness-line (g .ready) (h₁ .formed) (h₁ .book) x y (DD _) hy (h₁ .got) in
         let h = then D h₁ h₂ in
         let m = note D s (v1 x y) in
         let a = Q.ask q A A′ r y m in
         let v = at w (h .formed) (h .book) in
         let ok : Sendable a =
-        (small, d .small, t .next-small, d .small-record, (hy, (DD (enc (memo (v1 x y) (s .secret))), tt))) in
+        (small, d .small, t .next-small, d .small-record, (hy, (note-digest (g .ready) (v1 x y), tt))) in
         let n : NoneFails (needs D s a) =
-        is-open D DD w (g .opened) and not-zero q positive and not-zero A (d .positive) and not-zero A′ (t .next-positive)
-        and d .sound and rw (t .passes) refl and note-fits D (s .secret) (v1 x y) [] and at-root y (s .root) e and tt in
+        is-open (g .ready) and not-zero q positive and not-zero A (d .positive) and not-zero A′ (t .next-positive)
+        and d .sound and rw (t .passes) refl and fits-own (g .ready) (v1 x y) and at-root y (s .root) e and tt in
         let on : 0 < count (points A A′ (recordHash D r)) (ring (recordHash D) (w .items)) =
         subst (λ (u : Leaf). 0 < count u (ring (recordHash D) (w .items)))
         (at-z z (recordHash D r) (ap (recordHash D) k ∙ t .hash-is)) (t .in-ring) in
         let listed : Listed A r (w .items) = subst (λ (u : Record). Listed A u (w .items)) (sym k) (t .listed) in
-        let true-of = true-finding D D32 (w .formed) (w .items) q A A′ r (d .sound) (t .passes) (
+        let true-of = true-finding D (λ l. DD l .wide) (w .formed) (w .items) q A A′ r (d .sound) (t .passes) (
           listed,
           (λ c j. gap-free (recordHash D) c A A′ (recordHash D r) (w .items) (g .ascending) (gap-holds c A A′ j) on),
           occurs _ _ on,
@@ -144,7 +146,7 @@ module _ (D : List ℕ → Dig) (DD : (l : List ℕ) → IsDigest (D l)) (w : Wo
         let a = Q.askNone q in
         let empty-root : nought ≡ s .root = sym (none-hash D T (λ x. g .holds x ∙ rw e (count-nil x))) ∙ g .root in
         let n : NoneFails (needs D s a) =
-        (is-open D DD w (g .opened), (not-zero q positive, (at-root nought (s .root) empty-root, tt))) in
+        (is-open (g .ready), (not-zero q positive, (at-root nought (s .root) empty-root, tt))) in
         record {
           brings = brings D (leads-one D w a small n tt);
           reply = nothing-listed e (ap (λ (u : Told). u .says) (told-is D w a small n));

@@ -89,7 +89,7 @@ pub record IsEdit (e : Edit) : Type 0 where
   pub old : IsDigest (e .was)
   pub new : IsDigest (e .becomes)
 
-module _ (D : List ℕ → Dig) (DD : (l : List ℕ) → IsDigest (D l)) where
+module _ {D : List ℕ → Dig} (DD : (l : List ℕ) → IsDigest (D l)) where
   pub record-digest : (r : Record) → IsDigest (recordHash D r)
   unfolding recordHash
   record-digest r = pick-digest (blank r) nought (digest D (entry r)) nought-digest (DD (enc (entry r)))

@@ -20,7 +20,6 @@ use Rattle.runs.specs.Run.{Items, World}
 use Rattle.runs.specs.Wishes.{IsListed}
 use Rattle.runs.specs.Ways.{itemOf, nextOf, hashIn, isOf, leadsTo, gapHolds, has, found, wayTo, Fork, forkOf, leftOne, rightOne, regrown, replacing, replacingTwo}
 use Rattle.runs.specs.Outcomes.{treeWith, treeWithout, treeSwapped, treeRewritten}
-use Rattle.runs.proofs.Parts.{IsDigest}
 use Rattle.runs.proofs.Places.{located, Forks, forked, around, count-plug, count-two, regrown-one, regrown-two}
 use Rattle.runs.proofs.Standing.{Ground, once, spotted, of-item}
 use Rattle.runs.proofs.Moves.{gap-found}
@@ -32,7 +31,7 @@ leaf-is (points A B v) A′ B′ v′ e f h = λ i. points (sym e i) (sym f i) (
 single : (v x : Leaf) → count v (x ∷ []) ≡ one v x
 single v x = count-only v x (x ∷ []) refl
 
-module _ (D : List ℕ → Dig) (DD : (l : List ℕ) → IsDigest (D l)) (w : World) (T : Tree) (g : Ground D w T) where
+module _ {D : List ℕ → Dig} {w : World} {T : Tree} (g : Ground D w T) where
   -- ── leaves replaced, counted ──
 
   one-count : (p : Leaf → Bool) (X : Tree) → has p T ≡ true → (v : Leaf)
@@ -41,7 +40,7 @@ module _ (D : List ℕ → Dig) (DD : (l : List ℕ) → IsDigest (D l)) (w : Wo
       let x = found p T in
       let at = located p T have .under-way in
       let new : count v (leaves (regrown (replacing x X) T)) ≡ count v (leaves X) + around v (wayTo p T) =
-      ap (λ (t : Tree). count v (leaves t)) (regrown-one x X (wayTo p T) T at (once D DD w T g x)) ∙ count-plug v (wayTo p T) X in
+      ap (λ (t : Tree). count v (leaves t)) (regrown-one x X (wayTo p T) T at (once g x)) ∙ count-plug v (wayTo p T) X in
       let old : count v (leaves T) ≡ count v (x ∷ []) + around v (wayTo p T) =
       ap (λ (t : Tree). count v (leaves t)) (sym at) ∙ count-plug v (wayTo p T) (tip x) in
       omega (arith, new, old, single v x)
@@ -51,7 +50,7 @@ module _ (D : List ℕ → Dig) (DD : (l : List ℕ) → IsDigest (D l)) (w : Wo
       ≡ count v (leaves T) + count v (leaves X) + count v (leaves Y)
   two-count x y X Y f apart fork v =
       let new : count v (leaves (regrown (replacingTwo x X y Y) T)) ≡ _ =
-      ap (λ (t : Tree). count v (leaves t)) (regrown-two x X y Y apart f T fork (once D DD w T g x) (once D DD w T g y))
+      ap (λ (t : Tree). count v (leaves t)) (regrown-two x X y Y apart f T fork (once g x) (once g y))
       ∙ count-two v f (leftOne f X Y) (rightOne f X Y) in
       let old : count v (leaves T) ≡ _ =
       ap (λ (t : Tree). count v (leaves t)) (sym fork) ∙ count-two v f (tip (leftOne f x y)) (tip (rightOne f x y)) in
@@ -70,8 +69,8 @@ module _ (D : List ℕ → Dig) (DD : (l : List ℕ) → IsDigest (D l)) (w : Wo
   pub rewritten-holds : (A : ℕ) (r new : Record) → Listed A r (w .items)
       → Permuted (leaves (treeRewritten D A new T)) (ring (recordHash D) (putRecord A new (w .items)))
   rewritten-holds A r new m v =
-      let have = of-item D DD w T g A r m in
-      let t = spotted D DD w T g (isOf A) have in
+      let have = of-item g A r m in
+      let t = spotted g (isOf A) have in
       let x = found (isOf A) T in
       let A′ = nextOf x in
       let x-is = leaf-is x A A′ (hashIn x) (eqb-true A _ (t .passes)) refl refl in
@@ -94,10 +93,10 @@ module _ (D : List ℕ → Dig) (DD : (l : List ℕ) → IsDigest (D l)) (w : Wo
   swapped-holds A B apart m n v =
       let x = found (isOf A) T in
       let z = found (isOf B) T in
-      let hx = of-item D DD w T g A (m .0) (m .1) in
-      let hz = of-item D DD w T g B (n .0) (n .1) in
-      let A-is : A ≡ itemOf x = eqb-true A _ (spotted D DD w T g (isOf A) hx .passes) in
-      let B-is : B ≡ itemOf z = eqb-true B _ (spotted D DD w T g (isOf B) hz .passes) in
+      let hx = of-item g A (m .0) (m .1) in
+      let hz = of-item g B (n .0) (n .1) in
+      let A-is : A ≡ itemOf x = eqb-true A _ (spotted g (isOf A) hx .passes) in
+      let B-is : B ≡ itemOf z = eqb-true B _ (spotted g (isOf B) hz .passes) in
       let other : x ≢ z = λ e. apart (A-is ∙ ap itemOf e ∙ sym B-is) in
       let c = two-count x z (tip z) (tip x) (forkOf (isOf A) (isOf B) T) other (forked (isOf A) (isOf B) T hx hz other) v in
       omega (arith, c, single v x, single v z, g .holds v)
@@ -115,7 +114,7 @@ module _ (D : List ℕ → Dig) (DD : (l : List ℕ) → IsDigest (D l)) (w : Wo
       beside : has (gapHolds A) T ≡ true → (i : Item Record) (l : Items)
           → count v (leaves (treeWith D A T (i ∷ l))) ≡ count v (ring (recordHash D) (insert A clearedRecord (w .items)))
       beside have i l =
-          let t = spotted D DD w T g (gapHolds A) have in
+          let t = spotted g (gapHolds A) have in
           let x = found (gapHolds A) T in
           let B = itemOf x in
           let B′ = nextOf x in
@@ -142,7 +141,7 @@ module _ (D : List ℕ → Dig) (DD : (l : List ℕ) → IsDigest (D l)) (w : Wo
       by-items : (l : Items) → w .items ≡ l
           → count v (leaves (treeWith D A T l)) ≡ count v (ring (recordHash D) (insert A clearedRecord (w .items)))
       by-items [] e = alone e
-      by-items (item a r ∷ l) e = beside (gap-found D DD w T g A a r l positive free e) (item a r) l
+      by-items (item a r ∷ l) e = beside (gap-found g A a r l positive free e) (item a r) l
 
   -- ── remove ──
 
@@ -157,7 +156,7 @@ module _ (D : List ℕ → Dig) (DD : (l : List ℕ) → IsDigest (D l)) (w : Wo
           rw (e, q, remove-head a r []) refl
       only a r e (inr j) = elim j [ ]
 
-      between : Linked D DD w T g A → (i j : Item Record) (l : Items)
+      between : Linked g A → (i j : Item Record) (l : Items)
           → count v (leaves (treeWithout D A T (i ∷ j ∷ l))) ≡ count v (ring (recordHash D) (remove A (w .items)))
       between k i j l =
           let x = found (leadsTo A) T in
@@ -165,8 +164,8 @@ module _ (D : List ℕ → Dig) (DD : (l : List ℕ) → IsDigest (D l)) (w : Wo
           let B = itemOf x in
           let B′ = nextOf z in
           let y = points B B′ (hashIn x) in
-          let tx = spotted D DD w T g (leadsTo A) (k .before) in
-          let tz = spotted D DD w T g (isOf A) (k .own) in
+          let tx = spotted g (leadsTo A) (k .before) in
+          let tz = spotted g (isOf A) (k .own) in
           let x-is = leaf-is x B A (hashIn x) refl (k .before-next) refl in
           let z-is = leaf-is z A B′ nought (k .own-item) refl (k .own-empty) in
           let on-x : 0 < count (points B A (hashIn x)) (ring (recordHash D) (w .items)) =
@@ -174,7 +173,7 @@ module _ (D : List ℕ → Dig) (DD : (l : List ℕ) → IsDigest (D l)) (w : Wo
           let on-z : 0 < count (points A B′ nought) (ring (recordHash D) (w .items)) =
           subst (λ (u : Leaf). 0 < count u (ring (recordHash D) (w .items))) z-is (tz .in-ring) in
           let f = forkOf (leadsTo A) (isOf A) T in
-          let c = two-count x z (tip y) empty f (other-leaf D DD w T g A k) (fork-of D DD w T g A k) v in
+          let c = two-count x z (tip y) empty f (other-leaf g A k) (fork-of g A k) v in
           let d = remove-ring (recordHash D) A B B′ (hashIn x) nought (w .items) (g .ascending) (k .apart) on-x on-z v in
           omega (arith, c, d, single v y, count-nil v, g .holds v, ap (one v) x-is, ap (one v) z-is)
 
@@ -182,4 +181,4 @@ module _ (D : List ℕ → Dig) (DD : (l : List ℕ) → IsDigest (D l)) (w : Wo
           ≡ count v (ring (recordHash D) (remove A (w .items)))
       by-items [] e = elim (rw e at m) [ ]
       by-items (item a r ∷ []) e = only a r e (List·Memᴰ·cases-cons (rw e at m))
-      by-items (item a r ∷ item b t ∷ l) e = between (linked-in D DD w T g A a b r t l m e) (item a r) (item b t) l
+      by-items (item a r ∷ item b t ∷ l) e = between (linked-in g A a b r t l m e) (item a r) (item b t) l

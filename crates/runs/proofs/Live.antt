@@ -21,7 +21,7 @@ use Rattle.runs.specs.Wishes.{Wish, insertItem, removeItem, swapPlaces, 
 use Rattle.runs.specs.Honest.{honestLines}
 use Rattle.runs.specs.Outcomes.{itemsAfter, registersAfter, treeAfter}
 use Rattle.runs.specs.Liveness.{latestFirst, lastReply, Answered, turnsFor, Granted, LiveOrEnded, Liveness}
-use Rattle.runs.proofs.Parts.{IsDigest, bytes-append}
+use Rattle.runs.proofs.Parts.{bytes-append}
 use Rattle.runs.proofs.Sizes.{decent}
 use Rattle.runs.proofs.Sides.{side}
 use Rattle.runs.proofs.Runs.{run, stands-of}
@@ -35,9 +35,6 @@ use Rattle.runs.proofs.Removes.{remove-brings}
 use Rattle.runs.proofs.Grown.{rewritten-holds, swapped-holds, with-holds, without-holds}
 
 module _ (D : List ℕ → Dig) (D32 : (l : List ℕ) → length (D l) ≡ 32) (DB : (l : List ℕ) → Bytes (D l)) where
-  digests : (l : List ℕ) → IsDigest (D l)
-  digests l = record { wide = D32 l; bytes = DB l }
-
   module _ (w : World) (T : Tree) (g : Ground D w T) (below : w .registers .counter .0 < top) where
     abbrev s : Registers
     s = w .registers
@@ -69,26 +66,26 @@ module _ (D : List ℕ → Dig) (D32 : (l : List ℕ) → length (D l) ≡ 32) (
     -- each kind of wish
     granted : (x : Wish) → Legal (w .items) x → Granted D w T x
     granted (insertItem A) h =
-        grants (insertItem A) (w .changed) (insert-brings D digests w T g A (h .1) (h .0) (h .2)) refl (g .counter)
-        (insert-ascending 0 A clearedRecord (w .items) (h .0) (h .2) (g .ascending)) (with-holds D digests w T g A (h .0) (h .2)) tt
+        grants (insertItem A) (w .changed) (insert-brings g A (h .1) (h .0) (h .2)) refl (g .counter)
+        (insert-ascending 0 A clearedRecord (w .items) (h .0) (h .2) (g .ascending)) (with-holds g A (h .0) (h .2)) tt
     granted (removeItem A) h =
-        grants (removeItem A) (w .changed) (remove-brings D digests w T g A h) refl (g .counter)
-        (remove-ascending 0 A (w .items) (g .ascending)) (without-holds D digests w T g A h) tt
+        grants (removeItem A) (w .changed) (remove-brings g A h) refl (g .counter)
+        (remove-ascending 0 A (w .items) (g .ascending)) (without-holds g A h) tt
     granted (swapPlaces A B) h =
-        grants (swapPlaces A B) (w .changed) (swap-brings D digests w T g A B (h .0) (h .1) (h .2)) refl (g .counter)
-        (g .ascending) (swapped-holds D digests w T g A B (h .0) (h .1) (h .2)) tt
+        grants (swapPlaces A B) (w .changed) (swap-brings g A B (h .0) (h .1) (h .2)) refl (g .counter)
+        (g .ascending) (swapped-holds g A B (h .0) (h .1) (h .2)) tt
     granted (setRecord A v2 v3 v4) h =
         let new = nextRecord s v2 v3 v4 in
         grants (setRecord A v2 v3 v4) (w .changed + 1)
-        (set-brings D digests w T g A v2 v3 v4 (h .0 .0) (h .0 .1) (h .1) (h .2) (h .3) below) refl
+        (set-brings g A v2 v3 v4 (h .0 .0) (h .0 .1) (h .1) (h .2) (h .3) below) refl
         (ap (λ (n : ℕ). n + 1) (g .counter)) (put-ascending 0 A new (w .items) (g .ascending))
-        (rewritten-holds D digests w T g A (h .0 .0) new (h .0 .1)) tt
+        (rewritten-holds g A (h .0 .0) new (h .0 .1)) tt
     granted (clearRecord A) h =
-        grants (clearRecord A) (w .changed + 1) (clear-brings D digests w T g A (h .0) (h .1) (h .2) below) refl
+        grants (clearRecord A) (w .changed + 1) (clear-brings g A (h .0) (h .1) (h .2) below) refl
         (ap (λ (n : ℕ). n + 1) (g .counter)) (put-ascending 0 A clearedRecord (w .items) (g .ascending))
-        (rewritten-holds D digests w T g A (h .0) clearedRecord (h .1)) tt
+        (rewritten-holds g A (h .0) clearedRecord (h .1)) tt
     granted (askAbout q) h =
-        let a = ask-answers D digests w T g D32 q (h .1) (h .0) in
+        let a = ask-answers g q (h .1) (h .0) in
         grants (askAbout q) (w .changed) (a .brings) (g .root) (g .counter) (g .ascending) (g .holds) (a .reply)
 
   live-or-ended : LiveOrEnded D
@@ -100,7 +97,7 @@ module _ (D : List ℕ → Dig) (D32 : (l : List ℕ) → length (D l) ≡ 32) (
       grants = λ t x h.
           granted (latestFirst w) (t .tree)
           (record {
-            opened = opened;
+            ready = record { digests = λ l. record { wide = D32 l; bytes = DB l }; opened = opened };
             root = t .root;
             ascending = t .ascending;
             holds = t .holds;

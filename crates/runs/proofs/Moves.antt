@@ -8,7 +8,7 @@ use borrow.Author.Tests.{eqb-true}
 use Rattle.seqs.specs.Choose.{pick}
 use Rattle.paper.specs.declared.Record.{Record}
 use Rattle.paper.specs.declared.Registers.{Registers}
-use Rattle.paper.specs.Strings.{Dig, nought, u2, leaf, enc, memo, digest, recordHash, H}
+use Rattle.paper.specs.Strings.{Dig, nought, u2, leaf, digest, recordHash, H}
 use Rattle.paper.specs.Requests as Q
 use Rattle.paper.specs.Refusals.{clearedRecord, noneFits}
 use Rattle.paper.specs.Answers as Does
@@ -29,14 +29,17 @@ use Rattle.runs.proofs.Parts.{IsDigest}
 use Rattle.runs.proofs.Climbs.{record-digest, tree-digest, IsEdit, risen-two-is}
 use Rattle.runs.proofs.Places.{plug-two, rise-plug, rise-two, located, Forks, forked, regrown-one, regrown-two}
 use Rattle.runs.proofs.Fed.{at, note-fits, Brings, brings-also}
-use Rattle.runs.proofs.Reach.{is-open, two-places}
+use Rattle.runs.proofs.Reach.{is-open, note-digest, two-places}
 use Rattle.runs.proofs.Adopts.{heads-line, heads-behind, turn-last, adopt-last, alone-is, first-line, feet-are, without-is, place-lines}
 use Rattle.runs.proofs.Asks.{none-hash}
 use Rattle.runs.proofs.Standing.{Ground, leaf-digest, once, spot-by, spotted, of-item}
 
-module _ (D : List ℕ → Dig) (DD : (l : List ℕ) → IsDigest (D l)) (w : World) (T : Tree) (g : Ground D w T) where
+module _ {D : List ℕ → Dig} {w : World} {T : Tree} (g : Ground D w T) where
   abbrev s : Registers
   s = w .registers
+
+  abbrev DD : (l : List ℕ) → IsDigest (D l)
+  DD = g .ready .digests
 
   -- ── digests at the feet of a fork ──
 
@@ -89,33 +92,33 @@ module _ (D : List ℕ → Dig) (DD : (l : List ℕ) → IsDigest (D l)) (w : Wo
   swap-brings A B apart m n =
       let x = found (isOf A) T in
       let z = found (isOf B) T in
-      let hx = of-item D DD w T g A (m .0) (m .1) in
-      let hz = of-item D DD w T g B (n .0) (n .1) in
-      let A-is : A ≡ itemOf x = eqb-true A _ (spotted D DD w T g (isOf A) hx .passes) in
-      let B-is : B ≡ itemOf z = eqb-true B _ (spotted D DD w T g (isOf B) hz .passes) in
+      let hx = of-item g A (m .0) (m .1) in
+      let hz = of-item g B (n .0) (n .1) in
+      let A-is : A ≡ itemOf x = eqb-true A _ (spotted g (isOf A) hx .passes) in
+      let B-is : B ≡ itemOf z = eqb-true B _ (spotted g (isOf B) hz .passes) in
       let other : x ≢ z = λ e. apart (A-is ∙ ap itemOf e ∙ sym B-is) in
       let f = forkOf (isOf A) (isOf B) T in
       let fork = forked (isOf A) (isOf B) T hx hz other in
       let e : Edit = record { was = hashOf D (tip x); becomes = hashOf D (tip z) } in
-      let he : IsEdit e = record { old = tree-digest D DD (tip x); new = tree-digest D DD (tip z) } in
+      let he : IsEdit e = record { old = tree-digest DD (tip x); new = tree-digest DD (tip z) } in
       let a = leftOne f e (turned e) in
       let b = rightOne f e (turned e) in
-      let h = feet-are D DD w (g .opened) f e (turned e) he (record { old = he .new; new = he .old }) in
+      let h = feet-are (g .ready) f e (turned e) he (record { old = he .new; new = he .old }) in
       let y = risenTwo D f a b in
-      let hy = risen-two-is D DD f a b (h .0) (h .1) in
+      let hy = risen-two-is DD f a b (h .0) (h .1) in
       let was-root : y .was ≡ s .root =
       feet (λ u. u .was) f e (turned e) (tip x) (tip z) refl refl ∙ ap (hashOf D) (leaves-at f x z fork) ∙ g .root in
       let becomes-root : y .becomes ≡ hashOf D (treeSwapped D A B T) =
       feet (λ u. u .becomes) f e (turned e) (tip z) (tip x) refl refl
-      ∙ ap (hashOf D) (sym (regrown-two x (tip z) z (tip x) other f T fork (once D DD w T g x) (once D DD w T g z))) in
+      ∙ ap (hashOf D) (sym (regrown-two x (tip z) z (tip x) other f T fork (once g x) (once g z))) in
       let t = sayU2 a b y in
       let q = Q.swap (a .was) (b .was) (y .was) (y .becomes) (note D s t) in
-      let u = two-places D DD w (g .opened) (w .formed) (w .book) f a b (h .0) (h .1) in
-      let k = heads-behind D DD (u .leads)
-      (heads-line D DD (at w (u .formed) (u .book)) q [] [] (sayEI y) Does.nothing
-      (h .0 .old, (h .1 .old, (hy .old, (hy .new, (DD (enc (memo t (s .secret))), tt)))))
-      (is-open D DD w (g .opened), (fits-by-side (f .left) (f .right) (f .above) (f .crossed) e, tt)) (u .got, tt) refl) in
-      let r = adopt-last D DD w (g .opened) (twoPlaces D s f a b ++ (q ∷ [])) y [] hy was-root k in
+      let u = two-places (g .ready) (w .formed) (w .book) f a b (h .0) (h .1) in
+      let k = heads-behind D (u .leads)
+      (heads-line D (at w (u .formed) (u .book)) q [] [] (sayEI y) Does.nothing
+      (h .0 .old, (h .1 .old, (hy .old, (hy .new, (note-digest (g .ready) t, tt)))))
+      (is-open (g .ready), (fits-by-side (f .left) (f .right) (f .above) (f .crossed) e, tt)) (u .got, tt) refl) in
+      let r = adopt-last (g .ready) (twoPlaces D s f a b ++ (q ∷ [])) y [] hy was-root k in
       brings-also D (append-assoc (twoPlaces D s f a b) (q ∷ []) (takeOver D s y ∷ [])) (ap (rooted s) becomes-root) refl r
 
   -- ── insert ──
@@ -129,8 +132,8 @@ module _ (D : List ℕ → Dig) (DD : (l : List ℕ) → IsDigest (D l)) (w : Wo
       → Brings D w (insertLines D s A T []) (rooted s (alone D s A .becomes)) (insert A clearedRecord (w .items)) (w .changed)
   insert-first A small positive e =
       let root : nought ≡ s .root = sym (none-hash D T (λ x. g .holds x ∙ rw e (count-nil x))) ∙ g .root in
-      adopt-last D DD w (g .opened) (Q.first A ∷ []) (alone D s A) (insertion A ∷ []) (alone-is D DD w (g .opened) A) root
-      (first-line D DD w (g .opened) A small positive)
+      adopt-last (g .ready) (Q.first A ∷ []) (alone D s A) (insertion A ∷ []) (alone-is (g .ready) A) root
+      (first-line (g .ready) A small positive)
 
   -- beside the leaf whose gap holds A
   insert-beside : (A : ℕ) → Small A → 0 < A → has (gapHolds A) T ≡ true → (i : Item Record) (l : Items)
@@ -138,7 +141,7 @@ module _ (D : List ℕ → Dig) (DD : (l : List ℕ) → IsDigest (D l)) (w : Wo
       (insert A clearedRecord (w .items))
       (w .changed)
   insert-beside A small positive have i l =
-      let t = spotted D DD w T g (gapHolds A) have in
+      let t = spotted g (gapHolds A) have in
       let x = found (gapHolds A) T in
       let p = wayTo (gapHolds A) T in
       let f = halves p in
@@ -146,18 +149,18 @@ module _ (D : List ℕ → Dig) (DD : (l : List ℕ) → IsDigest (D l)) (w : Wo
       let B′ = nextOf x in
       let ω = hashIn x in
       let d = g .decent B (t .held) (t .listed) in
-      let hω = subst IsDigest (t .hash-is) (record-digest D DD (t .held)) in
+      let hω = subst IsDigest (t .hash-is) (record-digest DD (t .held)) in
       let y = without D s f B A B′ ω in
-      let hy = without-is D DD w (g .opened) f B A B′ ω in
+      let hy = without-is (g .ready) f B A B′ ω in
       let root : y .becomes ≡ s .root = ap (rise D p) (parent-nought (digest D (leaf B B′ ω)) ∙ leaf-digest D x) ∙ t .to-root in
-      let h = place-lines D DD w (g .opened) f B A B′ ω (d .small) small (t .next-small) hω (d .positive) positive
+      let h = place-lines (g .ready) f B A B′ ω (d .small) small (t .next-small) hω (d .positive) positive
       (t .next-positive) (t .passes) in
-      let k = turn-last D DD w (g .opened) (placed D s f B A B′ ω) y (removal A ∷ []) hy h in
-      let r = adopt-last D DD w (g .opened) (placed D s f B A B′ ω ++ (turnRound D s y ∷ [])) (turned y) (insertion A ∷ [])
+      let k = turn-last (g .ready) (placed D s f B A B′ ω) y (removal A ∷ []) hy h in
+      let r = adopt-last (g .ready) (placed D s f B A B′ ω ++ (turnRound D s y ∷ [])) (turned y) (insertion A ∷ [])
       (record { old = hy .new; new = hy .old }) root k in
       let X = branch (tip (points B A ω)) (tip (points A B′ nought)) in
       let grown : y .was ≡ hashOf D (treeWith D A T (i ∷ l)) =
-      rise-plug D p X ∙ ap (hashOf D) (sym (regrown-one x X p T (located (gapHolds A) T have .under-way) (once D DD w T g x))) in
+      rise-plug D p X ∙ ap (hashOf D) (sym (regrown-one x X p T (located (gapHolds A) T have .under-way) (once g x))) in
       brings-also D (append-assoc (placed D s f B A B′ ω) (turnRound D s y ∷ []) (takeOver D s (turned y) ∷ []))
       (ap (rooted s) grown) refl r
 
@@ -166,7 +169,7 @@ module _ (D : List ℕ → Dig) (DD : (l : List ℕ) → IsDigest (D l)) (w : Wo
       → has (gapHolds A) T ≡ true
   gap-found A a r l positive free e =
       let i = spot (recordHash D) A a r l positive (rw e at (g .ascending)) (rw e at free) in
-      spot-by D DD w T g (gapHolds A) (points (i .a) (i .b) (i .w)) (gap-tells (i .gap)) (rw e (i .on))
+      spot-by g (gapHolds A) (points (i .a) (i .b) (i .w)) (gap-tells (i .gap)) (rw e (i .on))
 
   pub insert-brings : (A : ℕ) → Small A → 0 < A → Unlisted A (w .items)
       → Brings D w (insertLines D s A T (w .items)) (rooted s (hashOf D (treeWith D A T (w .items))))

@@ -6,10 +6,11 @@ use mathlib.Core.List.{List, [], _∷_, _++_}
 use Prim.Native.Nat.{ℕ, _≤_}
 use native.Mathlib.Omega.{arith}
 use lib.ListN.{length}
-use Rattle.seqs.specs.Choose.{opposite}
+use Rattle.seqs.specs.Choose.{opposite, _and_}
 use Rattle.paper.specs.declared.Registers.{Registers}
 use Rattle.paper.specs.Strings.{Dig, Memo, u1, v1, Str, enc, memo, parentForms, foldUp, foldForms}
 use Rattle.paper.specs.Requests as Q
+use Rattle.paper.specs.Refusals.{noneFits}
 use Rattle.paper.specs.Answers as Does
 use Rattle.runs.specs.Run.{Issue, isIssued, World}
 use Rattle.runs.specs.Ways.{Way, sidesOf, siblingsOf, rise, cut, Fork, Edit, risen, parents, risenTwo}
@@ -18,15 +19,27 @@ use Rattle.runs.proofs.Parts.{IsDigest}
 use Rattle.runs.proofs.Climbs.{siblings-length, sides-fit, fold-rises, rise-append, whole, AllShort, cut-whole, lowest-short, higher-short, IsEdit, siblings-digests, risen-is, parents-are}
 use Rattle.runs.proofs.Fed.{at, note-fits, Got, says-also, then, say}
 
-module _ (D : List ℕ → Dig) (DD : (l : List ℕ) → IsDigest (D l)) (w : World) (o : w .registers .opened ≡ true) where
+-- an open module, for a digest of 32 bytes
+pub record Ready (D : List ℕ → Dig) (w : World) : Type 0 where
+  pub digests : (l : List ℕ) → IsDigest (D l)
+  pub opened : w .registers .opened ≡ true
+
+module _ {D : List ℕ → Dig} {w : World} (r : Ready D w) where
   abbrev s : Registers
   s = w .registers
 
-  pub is-open : opposite (s .opened) ≡ false
-  is-open = rw o refl
+  abbrev DD : (l : List ℕ) → IsDigest (D l)
+  DD = r .digests
 
-  abbrev pub note-digest : (t : Memo) → IsDigest (note D s t)
+  pub is-open : opposite (s .opened) ≡ false
+  is-open = rw (r .opened) refl
+
+  pub note-digest : (t : Memo) → IsDigest (note D s t)
   note-digest t = DD (enc (memo t (s .secret)))
+
+  -- the memorandum that says t fits where t is asked for
+  pub fits-own : (t : Memo) → noneFits D (s .secret) (t ∷ []) (note D s t) ≡ false
+  fits-own t = note-fits D (s .secret) t []
 
   -- ── one line of each kind, in w with more strings and memoranda ──
 
@@ -42,7 +55,7 @@ module _ (D : List ℕ → Dig) (DD : (l : List ℕ) → IsDigest (D l)) (w : Wo
         (say D (at w F b) (pathUp D s p x) (foldUp D v (sidesOf p) l ++ foldUp D v′ (sidesOf p) l)
         (foldForms D v′ (sidesOf p) l ++ foldForms D v (sidesOf p) l)
         (u1 v (foldUp D v (sidesOf p) l) v′ (foldUp D v′ (sidesOf p) l))
-        Does.nothing ((h .old, (h .new, tt)), siblings-digests D DD p, omega (arith, siblings-length D p), sides-fit D p)
+        Does.nothing ((h .old, (h .new, tt)), siblings-digests DD p, omega (arith, siblings-length D p), sides-fit D p)
         (is-open, tt) tt refl)
 
     join-line : (x y z : Edit) → IsEdit x → IsEdit y → IsEdit z → isIssued (note D s (sayU1 x y)) b ≡ true
@@ -51,15 +64,15 @@ module _ (D : List ℕ → Dig) (DD : (l : List ℕ) → IsDigest (D l)) (w : Wo
         let t = sayU1 x y in
         let u = sayU1 y z in
         say D (at w F b) (joinUp D s x y z) [] [] (sayU1 x z) Does.nothing
-        (hx .old, (hy .old, (hx .new, (hy .new, (note-digest t, (hz .old, (hz .new, (note-digest u, tt))))))))
-        (is-open, (note-fits D (s .secret) t [], (note-fits D (s .secret) u [], tt))) (i, (j, tt)) refl
+        (hx .old and hy .old and hx .new and hy .new and note-digest t and hz .old and hz .new and note-digest u and tt)
+        (is-open and fits-own t and fits-own u and tt) (i and j and tt) refl
 
     pub witness-line : (x y : Dig) → IsDigest x → IsDigest y → isIssued (note D s (u1 x y x y)) b ≡ true
         → Got D (at w F b) (Q.witness x y (note D s (u1 x y x y)) ∷ []) (v1 x y)
     witness-line x y hx hy i =
         let t = u1 x y x y in
-        say D (at w F b) (Q.witness x y (note D s t)) [] [] (v1 x y) Does.nothing (hx, (hy, (note-digest t, tt)))
-        (is-open, (note-fits D (s .secret) t [], tt)) (i, tt) refl
+        say D (at w F b) (Q.witness x y (note D s t)) [] [] (v1 x y) Does.nothing (hx and hy and note-digest t and tt)
+        (is-open and fits-own t and tt) (i and tt) refl
 
     pair-line : (a y c z : Edit) → IsEdit a → IsEdit y → IsEdit c → IsEdit z → isIssued (note D s (sayU1 a y)) b ≡ true
         → isIssued (note D s (sayU1 c z)) b ≡ true → Got D (at w F b) (pairUp D s a y c z ∷ []) (sayU2 a c (parents D y z))
@@ -67,22 +80,20 @@ module _ (D : List ℕ → Dig) (DD : (l : List ℕ) → IsDigest (D l)) (w : Wo
         let t = sayU1 a y in
         let u = sayU1 c z in
         say D (at w F b) (pairUp D s a y c z) [] (parentForms (y .becomes) (z .becomes) ++ parentForms (y .was) (z .was))
-        (sayU2 a c (parents D y z)) Does.nothing (
-          ha .old,
-          (hy .old, (ha .new, (hy .new, (note-digest t, (hc .old, (hz .old, (hc .new, (hz .new, (note-digest u, tt))))))))),
-        )
-        (is-open, (note-fits D (s .secret) t [], (note-fits D (s .secret) u [], tt))) (i, (j, tt)) refl
+        (sayU2 a c (parents D y z)) Does.nothing
+        (ha .old and hy .old and ha .new and hy .new and note-digest t and hc .old and hz .old and hc .new and hz .new
+        and note-digest u and tt)
+        (is-open and fits-own t and fits-own u and tt) (i and j and tt) refl
 
     raise-line : (a c y z : Edit) → IsEdit a → IsEdit c → IsEdit y → IsEdit z → isIssued (note D s (sayU2 a c y)) b ≡ true
         → isIssued (note D s (sayU1 y z)) b ≡ true → Got D (at w F b) (raiseUp D s a c y z ∷ []) (sayU2 a c z)
     raise-line a c y z ha hc hy hz i j =
         let t = sayU2 a c y in
         let u = sayU1 y z in
-        say D (at w F b) (raiseUp D s a c y z) [] [] (sayU2 a c z) Does.nothing (
-          ha .old,
-          (hc .old, (hy .old, (ha .new, (hc .new, (hy .new, (note-digest t, (hz .old, (hz .new, (note-digest u, tt))))))))),
-        )
-        (is-open, (note-fits D (s .secret) t [], (note-fits D (s .secret) u [], tt))) (i, (j, tt)) refl
+        say D (at w F b) (raiseUp D s a c y z) [] [] (sayU2 a c z) Does.nothing
+        (ha .old and hc .old and hy .old and ha .new and hc .new and hy .new and note-digest t and hz .old and hz .new
+        and note-digest u and tt)
+        (is-open and fits-own t and fits-own u and tt) (i and j and tt) refl
 
   -- ── up a way ──
 
@@ -94,7 +105,7 @@ module _ (D : List ℕ → Dig) (DD : (l : List ℕ) → IsDigest (D l)) (w : Wo
   further-up [] x y F b n hx hy i = got-already F b (sayU1 x y) i
   further-up (p ∷ ps) x y F b n hx hy i =
       let z = risen D p y in
-      let hz = risen-is D DD p y hy in
+      let hz = risen-is DD p y hy in
       let g = path-line F b p y (n .0) hy in
       let h = join-line (g .formed) (g .book) x y z hx hy hz (g .keeps _ i) (g .got) in
       let k = further-up ps x z (h .formed) (h .book) (n .1) hx hz (h .got) in
@@ -108,7 +119,7 @@ module _ (D : List ℕ → Dig) (DD : (l : List ℕ) → IsDigest (D l)) (w : Wo
       let c = cut 64 p in
       let y = risen D (c .lowest) x in
       let g = path-line F b (c .lowest) x (lowest-short p) h in
-      let k = further-up (c .higher) x y (g .formed) (g .book) (higher-short p) h (risen-is D DD (c .lowest) x h) (g .got) in
+      let k = further-up (c .higher) x y (g .formed) (g .book) (higher-short p) h (risen-is DD (c .lowest) x h) (g .got) in
       let up = sym (rise-append D (c .lowest) (whole (c .higher)) (x .was))
       ∙ ap (λ (q : Way). rise D q (x .was)) (cut-whole 64 p) in
       let up′ = sym (rise-append D (c .lowest) (whole (c .higher)) (x .becomes))
@@ -123,13 +134,13 @@ module _ (D : List ℕ → Dig) (DD : (l : List ℕ) → IsDigest (D l)) (w : Wo
       let y = risen D (f .left) a in
       let z = risen D (f .right) c in
       let n = parents D y z in
-      let hy = risen-is D DD (f .left) a ha in
-      let hz = risen-is D DD (f .right) c hc in
-      let hn = parents-are D DD y z hy hz in
+      let hy = risen-is DD (f .left) a ha in
+      let hz = risen-is DD (f .right) c hc in
+      let hn = parents-are DD y z hy hz in
       let g = one-place F b (f .left) a ha in
       let h = one-place (g .formed) (g .book) (f .right) c hc in
       let k = pair-line (h .formed) (h .book) a y c z ha hy hc hz (h .keeps _ (g .got)) (h .got) in
       let l = one-place (k .formed) (k .book) (f .above) n hn in
-      let m = raise-line (l .formed) (l .book) a c n (risen D (f .above) n) ha hc hn (risen-is D DD (f .above) n hn)
+      let m = raise-line (l .formed) (l .book) a c n (risen D (f .above) n) ha hc hn (risen-is DD (f .above) n hn)
       (l .keeps _ (k .got)) (l .got) in
       then D g (then D h (then D k (then D l m)))

@@ -86,9 +86,12 @@ module _ (D : List ℕ → Dig) where
   unfolding recordHash
   no-record-hash = refl
 
-module _ (D : List ℕ → Dig) (DD : (l : List ℕ) → IsDigest (D l)) (w : World) (T : Tree) (g : Ground D w T) where
+module _ {D : List ℕ → Dig} {w : World} {T : Tree} (g : Ground D w T) where
   abbrev s : Registers
   s = w .registers
+
+  abbrev DD : (l : List ℕ) → IsDigest (D l)
+  DD = g .ready .digests
 
   -- ── the only item ──
 
@@ -99,11 +102,11 @@ module _ (D : List ℕ → Dig) (DD : (l : List ℕ) → IsDigest (D l)) (w : Wo
       let y = points A A nought in
       let only : (x : Leaf) → count x (leaves T) ≡ one x y =
       λ x. g .holds x ∙ ap (λ (l : Items). count x (ring (recordHash D) l)) e ∙ single x in
-      let root : alone D s A .becomes ≡ s .root = sym (one-hash D T y (λ t. tree-digest D DD t .wide) only) ∙ g .root in
-      let ha = alone-is D DD w (g .opened) A in
-      let k = turn-last D DD w (g .opened) (Q.first A ∷ []) (alone D s A) (insertion A ∷ []) ha
-      (first-line D DD w (g .opened) A (d .small) (d .positive)) in
-      adopt-last D DD w (g .opened) (Q.first A ∷ turnRound D s (alone D s A) ∷ []) (turned (alone D s A)) (removal A ∷ [])
+      let root : alone D s A .becomes ≡ s .root = sym (one-hash D T y (λ t. tree-digest DD t .wide) only) ∙ g .root in
+      let ha = alone-is (g .ready) A in
+      let k = turn-last (g .ready) (Q.first A ∷ []) (alone D s A) (insertion A ∷ []) ha
+      (first-line (g .ready) A (d .small) (d .positive)) in
+      adopt-last (g .ready) (Q.first A ∷ turnRound D s (alone D s A) ∷ []) (turned (alone D s A)) (removal A ∷ [])
       (record { old = ha .new; new = ha .old }) root k
     where
       same-item : (item A clearedRecord ≡ item a r) ⊎ Listed A clearedRecord [] → item A clearedRecord ≡ item a r
@@ -132,10 +135,10 @@ module _ (D : List ℕ → Dig) (DD : (l : List ℕ) → IsDigest (D l)) (w : Wo
 
   pub linked : (A : ℕ) → Near A (recordHash D clearedRecord) (ring (recordHash D) (w .items)) → Linked A
   linked A n =
-      let hx = spot-by D DD w T g (leadsTo A) (points (n .a) A (n .w)) (eq-eqb A A refl) (n .on) in
-      let hz = spot-by D DD w T g (isOf A) (points A (n .b) (recordHash D clearedRecord)) (eq-eqb A A refl) (n .next) in
-      let tx = spotted D DD w T g (leadsTo A) hx in
-      let tz = spotted D DD w T g (isOf A) hz in
+      let hx = spot-by g (leadsTo A) (points (n .a) A (n .w)) (eq-eqb A A refl) (n .on) in
+      let hz = spot-by g (isOf A) (points A (n .b) (recordHash D clearedRecord)) (eq-eqb A A refl) (n .next) in
+      let tx = spotted g (leadsTo A) hx in
+      let tz = spotted g (isOf A) hz in
       let x = found (leadsTo A) T in
       let z = found (isOf A) T in
       let x-next : A ≡ nextOf x = eqb-true A _ (tx .passes) in
@@ -174,14 +177,14 @@ module _ (D : List ℕ → Dig) (DD : (l : List ℕ) → IsDigest (D l)) (w : Wo
   remove-between A m k i j l =
       let x = found (leadsTo A) T in
       let z = found (isOf A) T in
-      let tx = spotted D DD w T g (leadsTo A) (k .before) in
-      let tz = spotted D DD w T g (isOf A) (k .own) in
+      let tx = spotted g (leadsTo A) (k .before) in
+      let tz = spotted g (isOf A) (k .own) in
       let B = itemOf x in
       let B′ = nextOf z in
       let ω = hashIn x in
       let dB = g .decent B (tx .held) (tx .listed) in
       let dA = g .decent A clearedRecord m in
-      let hω = subst IsDigest (tx .hash-is) (record-digest D DD (tx .held)) in
+      let hω = subst IsDigest (tx .hash-is) (record-digest DD (tx .held)) in
       let f = forkOf (leadsTo A) (isOf A) T in
       let y = without D s f B A B′ ω in
       let x-was : digest D (leaf B A ω) ≡ hashOf D (tip x) =
@@ -189,17 +192,17 @@ module _ (D : List ℕ → Dig) (DD : (l : List ℕ) → IsDigest (D l)) (w : Wo
       let z-was : digest D (leaf A B′ nought) ≡ hashOf D (tip z) =
       ap₂ (λ (n : ℕ) (v : Dig). digest D (leaf n B′ v)) (k .own-item) (k .own-empty) ∙ leaf-digest D z in
       let root : y .was ≡ s .root =
-      feet D DD w T g (λ u. u .was) f (relinked D s B A B′ ω) (gone D s A B′) (tip x) (tip z) x-was z-was
-      ∙ ap (hashOf D) (leaves-at D DD w T g f x z (fork-of A k)) ∙ g .root in
+      feet g (λ u. u .was) f (relinked D s B A B′ ω) (gone D s A B′) (tip x) (tip z) x-was z-was
+      ∙ ap (hashOf D) (leaves-at g f x z (fork-of A k)) ∙ g .root in
       let X = tip (points B B′ ω) in
       let shrunk : y .becomes ≡ hashOf D (treeWithout D A T (i ∷ j ∷ l)) =
-      feet D DD w T g (λ u. u .becomes) f (relinked D s B A B′ ω) (gone D s A B′) X empty refl refl
+      feet g (λ u. u .becomes) f (relinked D s B A B′ ω) (gone D s A B′) X empty refl refl
       ∙ ap (hashOf D)
-      (sym (regrown-two x X z empty (other-leaf A k) f T (fork-of A k) (once D DD w T g x) (once D DD w T g z))) in
-      let h = place-lines D DD w (g .opened) f B A B′ ω (dB .small) (dA .small) (tz .next-small) hω (dB .positive) (dA .positive)
+      (sym (regrown-two x X z empty (other-leaf A k) f T (fork-of A k) (once g x) (once g z))) in
+      let h = place-lines (g .ready) f B A B′ ω (dB .small) (dA .small) (tz .next-small) hω (dB .positive) (dA .positive)
       (tz .next-positive) (k .gap) in
       brings-also D refl (ap (rooted s) shrunk) refl
-      (adopt-last D DD w (g .opened) (placed D s f B A B′ ω) y (removal A ∷ []) (without-is D DD w (g .opened) f B A B′ ω) root h)
+      (adopt-last (g .ready) (placed D s f B A B′ ω) y (removal A ∷ []) (without-is (g .ready) f B A B′ ω) root h)
 
   pub remove-brings : (A : ℕ) → Listed A clearedRecord (w .items)
       → Brings D w (removeLines D s A T (w .items)) (rooted s (hashOf D (treeWithout D A T (w .items)))) (remove A (w .items))

@@ -10,7 +10,7 @@ use Rattle.seqs.specs.Choose.{opposite, _and_}
 use Rattle.seqs.specs.Bytes.{same}
 use Rattle.paper.specs.declared.Record.{Record}
 use Rattle.paper.specs.declared.Registers.{Registers}
-use Rattle.paper.specs.Strings.{Dig, enc, memo, blank, recordHash}
+use Rattle.paper.specs.Strings.{Dig, blank, recordHash}
 use Rattle.paper.specs.Requests as Q
 use Rattle.paper.specs.Refusals.{top, nextRecord, clearedRecord, noneFits}
 use Rattle.paper.specs.Answers.{raised}
@@ -25,14 +25,17 @@ use Rattle.runs.proofs.Parts.{IsDigest, AllDigests}
 use Rattle.runs.proofs.Climbs.{rise-digest}
 use Rattle.runs.proofs.Places.{rise-plug, located, regrown-one}
 use Rattle.runs.proofs.Sizes.{record-is, Decent}
-use Rattle.runs.proofs.Fed.{at, note-fits, Got, Brings, brings-also, leads-on, leads-one, brings}
-use Rattle.runs.proofs.Reach.{is-open, one-place}
+use Rattle.runs.proofs.Fed.{at, Got, Brings, brings-also, leads-on, leads-one, brings}
+use Rattle.runs.proofs.Reach.{is-open, note-digest, fits-own, one-place}
 use Rattle.runs.proofs.Adopts.{not-zero, at-root}
 use Rattle.runs.proofs.Standing.{Ground, Spotted, once, spotted, of-item, item-digest}
 
-module _ (D : List ℕ → Dig) (DD : (l : List ℕ) → IsDigest (D l)) (w : World) (T : Tree) (g : Ground D w T) where
+module _ {D : List ℕ → Dig} {w : World} {T : Tree} (g : Ground D w T) where
   abbrev s : Registers
   s = w .registers
+
+  abbrev DD : (l : List ℕ) → IsDigest (D l)
+  DD = g .ready .digests
 
   -- the digests of its leaf and of the root, with item A's record and with another
   abbrev atLeaf : (A : ℕ) (new : Record) → Edit
@@ -43,7 +46,7 @@ module _ (D : List ℕ → Dig) (DD : (l : List ℕ) → IsDigest (D l)) (w : Wo
 
   -- what holds of item A's leaf and its U1, whatever the new record
   record Rewrites (A : ℕ) (r new : Record) : Type 0 where
-    spot : Spotted D DD w T g (isOf A)
+    spot : Spotted g (isOf A)
     item : Decent A (recordOf A (w .items))
     record-same : recordOf A (w .items) ≡ r
     numbered : eqb A 0 ≡ false
@@ -57,8 +60,8 @@ module _ (D : List ℕ → Dig) (DD : (l : List ℕ) → IsDigest (D l)) (w : Wo
 
   rewrites : (A : ℕ) (r new : Record) → Listed A r (w .items) → Rewrites A r new
   rewrites A r new m =
-      let have = of-item D DD w T g A r m in
-      let t = spotted D DD w T g (isOf A) have in
+      let have = of-item g A r m in
+      let t = spotted g (isOf A) have in
       let x = found (isOf A) T in
       let X = tip (points A (nextOf x) (recordHash D new)) in
       let p = wayTo (isOf A) T in
@@ -72,14 +75,14 @@ module _ (D : List ℕ → Dig) (DD : (l : List ℕ) → IsDigest (D l)) (w : Wo
         numbered = not-zero A (d .positive);
         next-numbered = not-zero _ (t .next-positive);
         at-root = at-root _ (s .root)
-            (ap (rise D p) (item-digest D DD w T g A r m (isOf A) t (eqb-true A _ (t .passes))) ∙ t .to-root);
-        digests = rise-digest D DD p (e .was) (DD _) and rise-digest D DD p (e .becomes) (DD _)
-            and DD (enc (memo (sayU1 e (risen D p e)) (s .secret))) and tt;
-        fits = note-fits D (s .secret) (sayU1 e (risen D p e)) [];
+            (ap (rise D p) (item-digest g A r m (isOf A) t (eqb-true A _ (t .passes))) ∙ t .to-root);
+        digests = rise-digest DD p (e .was) (DD _) and rise-digest DD p (e .becomes) (DD _)
+            and note-digest (g .ready) (sayU1 e (risen D p e)) and tt;
+        fits = fits-own (g .ready) (sayU1 e (risen D p e));
         new-root =
             rise-plug D p X
-            ∙ ap (hashOf D) (sym (regrown-one x X p T (located (isOf A) T have .under-way) (once D DD w T g x)));
-        lines = one-place D DD w (g .opened) (w .formed) (w .book) p e (record { old = DD _; new = DD _ });
+            ∙ ap (hashOf D) (sym (regrown-one x X p T (located (isOf A) T have .under-way) (once g x)));
+        lines = one-place (g .ready) (w .formed) (w .book) p e (record { old = DD _; new = DD _ });
       }
 
   below-top : (c : ℕ) → c < top → eqb c top ≡ false
@@ -95,7 +98,7 @@ module _ (D : List ℕ → Dig) (DD : (l : List ℕ) → IsDigest (D l)) (w : Wo
       (brings D (leads-on D (h .leads)
       (leads-one D (at w (h .formed) (h .book)) (Q.setTo A _ _ v2 v3 v4 _ _ _)
       (u .item .small, u .spot .next-small, u .item .small-record, s2, s3, s4, u .digests)
-      (is-open D DD w (g .opened) and u .numbered and u .next-numbered and u .item .sound and below-top (s .counter .0) below
+      (is-open (g .ready) and u .numbered and u .next-numbered and u .item .sound and below-top (s .counter .0) below
       and u .fits and u .at-root and tt)
       (h .got, tt))))
 
@@ -109,6 +112,6 @@ module _ (D : List ℕ → Dig) (DD : (l : List ℕ) → IsDigest (D l)) (w : Wo
       (brings D (leads-on D (h .leads)
       (leads-one D (at w (h .formed) (h .book)) (Q.clear A _ _ _ _ _)
       (u .item .small, u .spot .next-small, u .item .small-record, u .digests)
-      (is-open D DD w (g .opened) and u .numbered and u .next-numbered and u .item .sound
+      (is-open (g .ready) and u .numbered and u .next-numbered and u .item .sound
       and (ap blank (u .record-same) ∙ recorded) and below-top (s .counter .0) below and u .fits and u .at-root and tt)
       (h .got, tt))))

@@ -16,15 +16,15 @@ use Rattle.runs.specs.Run.{World}
 use Rattle.runs.specs.Ways.{itemOf, nextOf, hashIn, isOf, has, found, wayTo, rise}
 use Rattle.runs.specs.Honest.{recordOf}
 use Rattle.runs.proofs.Widths.{Small}
-use Rattle.runs.proofs.Parts.{IsDigest}
 use Rattle.runs.proofs.Places.{rise-plug, has-it, located}
 use Rattle.runs.proofs.Rings.{ring-once, leaf-held, leaf-next}
+use Rattle.runs.proofs.Reach.{Ready}
 use Rattle.runs.proofs.Sizes.{record-is, AllDecent}
 
 module _ (D : List ℕ → Dig) where
   -- the module is open, the tree stands for the list, and what is listed fits lines
   pub record Ground (w : World) (T : Tree) : Type 0 where
-    pub opened : w .registers .opened ≡ true
+    pub ready : Ready D w
     pub root : hashOf D T ≡ w .registers .root
     pub ascending : Ascending 0 (w .items)
     pub holds : Permuted (leaves T) (ring (recordHash D) (w .items))
@@ -34,7 +34,7 @@ module _ (D : List ℕ → Dig) where
   pub leaf-digest : (x : Leaf) → digest D (leaf (itemOf x) (nextOf x) (hashIn x)) ≡ hashOf D (tip x)
   leaf-digest (points A B v) = refl
 
-module _ (D : List ℕ → Dig) (DD : (l : List ℕ) → IsDigest (D l)) (w : World) (T : Tree) (g : Ground D w T) where
+module _ {D : List ℕ → Dig} {w : World} {T : Tree} (g : Ground D w T) where
   abbrev s : Registers
   s = w .registers
 
