@@ -1,12 +1,14 @@
 -- What is written reads back: the line of a request whose numbers and digests have their widths is a line of digits with a
 -- known kind, a frame that fits, and the frame of that very request. Shown row by row of the table of kinds.
 use mathlib.Core.Path.{_≡_, refl, ap, subst, _∙_}
-use mathlib.Core.Bool.{true, false}
+use mathlib.Core.Bool.{Bool, true, false}
 use mathlib.Core.List.{List, [], _∷_, append-nil}
 use Prim.Native.Nat.{ℕ, _+_, _%_, _^_, _≤_, _<_}
 use native.Mathlib.Omega.{arith}
-use borrow.Author.Tests.{eq-eqb, ne-eqb, le-ltb}
+use borrow.Author.Tests.{eq-eqb, ne-eqb, le-ltb, leb-true}
+use lib.Dec.{leb}
 use lib.ListN.{length, getD}
+use Rattle.seqs.specs.Choose.{both, both-true, _and_}
 use Rattle.seqs.specs.Bytes.{Bytes, number-be64}
 use Rattle.hex.specs.Hex.{bytesOf, digitsOf}
 use Rattle.hex.proofs.Laws.{bytes-of-digits, digits-all, digits-length}
@@ -16,7 +18,7 @@ use Rattle.paper.specs.Requests.{Request, Carried, aDigest, sidesIn, Kind, kind
 use Rattle.paper.specs.Refusals.{isHex}
 use Rattle.runs.specs.Frames.{together, pathBytes, written, frameOf}
 use Rattle.runs.proofs.Widths.{Small, SmallRecord}
-use Rattle.runs.proofs.Parts.{AllDigests, ShapedAll, takes-all, sound-all, part-at, bytes-all, most, short-all, shaped-number, shaped-digest, shaped-record, sides-small, sides-back, shaped-path, siblings-back, record-back}
+use Rattle.runs.proofs.Parts.{AllDigests, ShapedAll, most, shaped-row, part-at, shaped-number, shaped-digest, shaped-record, sides-small, sides-back, shaped-path, siblings-back, record-back}
 
 -- ── requests that a line can carry ──
 
@@ -48,22 +50,28 @@ pub record ReadsBack (q : Request) : Type 0 where
   pub fit : fits (frameOf q) ≡ true
   pub read : requestOf (frameOf q) ≡ q
 
+-- the kind is in the table, and what it carries leaves the frame short
+abbrev listed : (kind : ℕ) → Bool
+listed k = both (known k) (leb (most (rowOf k .carries)) 2121)
+
 -- by its row
-by-row : (q : Request) → written q .kind < 256 → known (written q .kind) ≡ true
-    → most (rowOf (written q .kind) .carries) < 2122 → ShapedAll (rowOf (written q .kind) .carries) (written q .parts)
+by-row : (q : Request) → listed (written q .kind) ≡ true → ShapedAll (rowOf (written q .kind) .carries) (written q .parts)
     → rowOf (written q .kind) .reads (λ i. getD (written q .parts) i []) ≡ q → ReadsBack q
-unfolding fits requestOf
-by-row q b k m h e =
-    let row : Kind = rowOf (written q .kind) in
+unfolding fits requestOf known kinds
+by-row q k h e =
+    let kind = written q .kind in
+    let row : Kind = rowOf kind in
     let ps = written q .parts in
+    let in-table = both-true (known kind) (leb (most (row .carries)) 2121) k in
+    let low = leb-true kind (length kinds) (both-true (leb 1 kind) (leb kind (length kinds)) (in-table .0) .1) in
+    let all = shaped-row (row .carries) ps h in
     record {
-      bytes = (b, bytes-all (row .carries) ps h);
-      short = omega (arith, short-all (row .carries) ps h);
-      kind-known = k;
+      bytes = (omega arith, all .bytes);
+      short = omega (arith, all .short, leb-true (most (row .carries)) 2121 (in-table .1));
+      kind-known = in-table .0;
       fit = rw (
-        sound-all (row .carries) ps h,
-        eq-eqb (length (frameOf q)) (1 + takesAll (row .carries) (together ps))
-            (omega (arith, takes-all (row .carries) ps h)),
+        all .fair,
+        eq-eqb (length (frameOf q)) (1 + takesAll (row .carries) (together ps)) (omega (arith, all .long)),
       ) refl;
       read = (λ j. row .reads (λ i. part-at (row .carries) ps i h j)) ∙ e;
     }
@@ -77,44 +85,38 @@ shaped-digests : (l : List Dig) → AllDigests l → ShapedAll (digestsOnly l) l
 shaped-digests [] h = tt
 shaped-digests (d ∷ l) h = (shaped-digest d (h .0), shaped-digests l (h .1))
 
+of-digests : (q : Request) → AllDigests (written q .parts) → listed (written q .kind) ≡ true
+    → digestsOnly (written q .parts) ≡ rowOf (written q .kind) .carries
+    → rowOf (written q .kind) .reads (λ i. getD (written q .parts) i []) ≡ q → ReadsBack q
+of-digests q h k c e =
+    by-row q k (subst (λ (cs : List Carried). ShapedAll cs (written q .parts)) c (shaped-digests (written q .parts) h)) e
+
 pub reads-back : (q : Request) → Sendable q → ReadsBack q
 unfolding kinds known
 reads-back (Q.path x x′ sides l) h =
-    let q = Q.path x x′ sides l in
-    let p = shaped-path sides l (h .1) (h .2) (h .3) in
-    by-row q (omega arith) refl (omega arith) (shaped-digest x (h .0 .0), (shaped-digest x′ (h .0 .1 .0), (p, tt)))
+    by-row (Q.path x x′ sides l) refl
+    (shaped-digest x (h .0 .0) and shaped-digest x′ (h .0 .1 .0) and shaped-path sides l (h .1) (h .2) (h .3) and tt)
     (rw (siblings-back sides l (h .1))
     (ap (λ (n : ℕ). Q.path x x′ n l)
     (subst (λ (b : List ℕ). sidesIn b ≡ sides) (append-nil (pathBytes sides l))
     (sides-back sides (length l) (together l) [] (sides-small (length l) sides (h .2) (h .3))))))
-reads-back (Q.witness x y m) h =
-    by-row (Q.witness x y m) (omega arith) refl (omega arith) (shaped-digests (written (Q.witness x y m) .parts) h) refl
-reads-back (Q.join x y x′ y′ m1 z z′ m2) h =
-    by-row (Q.join x y x′ y′ m1 z z′ m2) (omega arith) refl (omega arith)
-    (shaped-digests (written (Q.join x y x′ y′ m1 z z′ m2) .parts) h) refl
-reads-back (Q.pair x1 y x1′ y′ m1 x2 z x2′ z′ m2) h =
-    by-row (Q.pair x1 y x1′ y′ m1 x2 z x2′ z′ m2) (omega arith) refl (omega arith)
-    (shaped-digests (written (Q.pair x1 y x1′ y′ m1 x2 z x2′ z′ m2) .parts) h) refl
-reads-back (Q.raise x1 x2 y x1′ x2′ y′ m1 z z′ m2) h =
-    by-row (Q.raise x1 x2 y x1′ x2′ y′ m1 z z′ m2) (omega arith) refl (omega arith)
-    (shaped-digests (written (Q.raise x1 x2 y x1′ x2′ y′ m1 z z′ m2) .parts) h) refl
-reads-back (Q.swap x1 x2 y y′ m) h =
-    by-row (Q.swap x1 x2 y y′ m) (omega arith) refl (omega arith) (shaped-digests (written (Q.swap x1 x2 y y′ m) .parts) h) refl
+reads-back (Q.witness x y m) h = of-digests (Q.witness x y m) h refl refl refl
+reads-back (Q.join x y x′ y′ m1 z z′ m2) h = of-digests (Q.join x y x′ y′ m1 z z′ m2) h refl refl refl
+reads-back (Q.pair x1 y x1′ y′ m1 x2 z x2′ z′ m2) h = of-digests (Q.pair x1 y x1′ y′ m1 x2 z x2′ z′ m2) h refl refl refl
+reads-back (Q.raise x1 x2 y x1′ x2′ y′ m1 z z′ m2) h = of-digests (Q.raise x1 x2 y x1′ x2′ y′ m1 z z′ m2) h refl refl refl
+reads-back (Q.swap x1 x2 y y′ m) h = of-digests (Q.swap x1 x2 y y′ m) h refl refl refl
 reads-back (Q.first A) h =
-    by-row (Q.first A) (omega arith) refl (omega arith) (shaped-number A, tt) (ap (λ (n : ℕ). Q.first n) (number-be64 A h))
+    by-row (Q.first A) refl (shaped-number A and tt) (ap (λ (n : ℕ). Q.first n) (number-be64 A h))
 reads-back (Q.place A A′ B′ ω y y′ m) h =
     let e₁ = number-be64 A (h .0) in
     let e₂ = number-be64 A′ (h .1) in
     let e₃ = number-be64 B′ (h .2) in
-    by-row (Q.place A A′ B′ ω y y′ m) (omega arith) refl (omega arith)
-    (shaped-number A, (shaped-number A′, (shaped-number B′, shaped-digests (ω ∷ y ∷ y′ ∷ m ∷ []) (h .3))))
+    by-row (Q.place A A′ B′ ω y y′ m) refl
+    (shaped-number A and shaped-number A′ and shaped-number B′ and shaped-digests (ω ∷ y ∷ y′ ∷ m ∷ []) (h .3))
     (λ i. Q.place (e₁ i) (e₂ i) (e₃ i) ω y y′ m)
-reads-back (Q.turn x y m) h =
-    by-row (Q.turn x y m) (omega arith) refl (omega arith) (shaped-digests (written (Q.turn x y m) .parts) h) refl
-reads-back (Q.chain x y m1 z m2) h =
-    by-row (Q.chain x y m1 z m2) (omega arith) refl (omega arith) (shaped-digests (written (Q.chain x y m1 z m2) .parts) h) refl
-reads-back (Q.adopt y y′ m) h =
-    by-row (Q.adopt y y′ m) (omega arith) refl (omega arith) (shaped-digests (written (Q.adopt y y′ m) .parts) h) refl
+reads-back (Q.turn x y m) h = of-digests (Q.turn x y m) h refl refl refl
+reads-back (Q.chain x y m1 z m2) h = of-digests (Q.chain x y m1 z m2) h refl refl refl
+reads-back (Q.adopt y y′ m) h = of-digests (Q.adopt y y′ m) h refl refl refl
 reads-back (Q.setTo A A′ old v2 v3 v4 y y′ m) h =
     let e₁ = number-be64 A (h .0) in
     let e₂ = number-be64 A′ (h .1) in
@@ -122,31 +124,28 @@ reads-back (Q.setTo A A′ old v2 v3 v4 y y′ m) h =
     let e₄ = number-be64 v2 (h .3) in
     let e₅ = number-be64 v3 (h .4) in
     let e₆ = number-be64 v4 (h .5) in
-    let digests = shaped-digests (y ∷ y′ ∷ m ∷ []) (h .6) in
-    by-row (Q.setTo A A′ old v2 v3 v4 y y′ m) (omega arith) refl (omega arith) (
-      shaped-number A,
-      (shaped-number A′, (shaped-record old, (shaped-number v2, (shaped-number v3, (shaped-number v4, digests))))),
-    )
+    by-row (Q.setTo A A′ old v2 v3 v4 y y′ m) refl
+    (shaped-number A and shaped-number A′ and shaped-record old and shaped-number v2 and shaped-number v3 and shaped-number v4
+    and shaped-digests (y ∷ y′ ∷ m ∷ []) (h .6))
     (λ i. Q.setTo (e₁ i) (e₂ i) (e₃ i) (e₄ i) (e₅ i) (e₆ i) y y′ m)
 reads-back (Q.clear A A′ old y y′ m) h =
     let e₁ = number-be64 A (h .0) in
     let e₂ = number-be64 A′ (h .1) in
     let e₃ = record-back old (h .2) in
-    by-row (Q.clear A A′ old y y′ m) (omega arith) refl (omega arith)
-    (shaped-number A, (shaped-number A′, (shaped-record old, shaped-digests (y ∷ y′ ∷ m ∷ []) (h .3))))
+    by-row (Q.clear A A′ old y y′ m) refl
+    (shaped-number A and shaped-number A′ and shaped-record old and shaped-digests (y ∷ y′ ∷ m ∷ []) (h .3))
     (λ i. Q.clear (e₁ i) (e₂ i) (e₃ i) y y′ m)
 reads-back (Q.ask q A A′ r y m) h =
     let e₁ = number-be64 q (h .0) in
     let e₂ = number-be64 A (h .1) in
     let e₃ = number-be64 A′ (h .2) in
     let e₄ = record-back r (h .3) in
-    by-row (Q.ask q A A′ r y m) (omega arith) refl (omega arith)
-    (shaped-number q, (shaped-number A, (shaped-number A′, (shaped-record r, shaped-digests (y ∷ m ∷ []) (h .4)))))
+    by-row (Q.ask q A A′ r y m) refl
+    (shaped-number q and shaped-number A and shaped-number A′ and shaped-record r and shaped-digests (y ∷ m ∷ []) (h .4))
     (λ i. Q.ask (e₁ i) (e₂ i) (e₃ i) (e₄ i) y m)
 reads-back (Q.askNone q) h =
-    by-row (Q.askNone q) (omega arith) refl (omega arith) (shaped-number q, tt) (ap (λ (n : ℕ). Q.askNone n) (number-be64 q h))
-reads-back (Q.unlock k) h =
-    by-row (Q.unlock k) (omega arith) refl (omega arith) (shaped-digests (written (Q.unlock k) .parts) h) refl
+    by-row (Q.askNone q) refl (shaped-number q and tt) (ap (λ (n : ℕ). Q.askNone n) (number-be64 q h))
+reads-back (Q.unlock k) h = of-digests (Q.unlock k) h refl refl refl
 
 -- ── its line ──
 

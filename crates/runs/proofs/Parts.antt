@@ -9,6 +9,7 @@ use native.Mathlib.Omega.{arith}
 use borrow.Author.Tests.{le-leb}
 use lib.ListN.{length, getD, take, drop, length-append}
 use lib.Seq.{take-at, drop-at}
+use Rattle.seqs.specs.Choose.{_and_}
 use Rattle.seqs.specs.Bytes.{Bytes, be64, numberOf, number-be64, be64-length}
 use Rattle.paper.specs.declared.Record.{Record}
 use Rattle.paper.specs.Strings.{Dig}
@@ -28,7 +29,7 @@ a-byte n = mod-lt n (omega arith)
 be64-bytes : (n : ℕ) → Bytes (be64 n)
 unfolding be64
 be64-bytes n =
-    (a-byte _, (a-byte _, (a-byte _, (a-byte _, (a-byte _, (a-byte _, (a-byte _, (a-byte _, tt))))))))
+    a-byte _ and a-byte _ and a-byte _ and a-byte _ and a-byte _ and a-byte _ and a-byte _ and a-byte _ and tt
 
 -- a digest that a line can carry: 32 bytes
 pub record IsDigest (d : Dig) : Type 0 where
@@ -57,19 +58,33 @@ front : (c : Carried) (b rest : List ℕ) → Shaped c b → (take (takes c (b +
     × (drop (takes c (b ++ rest)) (b ++ rest) ≡ rest)
 front c b rest h = (take-at b rest _ (sym (h .long rest)), drop-at b rest _ (sym (h .long rest)))
 
-pub takes-all : (cs : List Carried) (ps : List (List ℕ)) → ShapedAll cs ps → takesAll cs (together ps) ≡ length (together ps)
-takes-all [] [] h = refl
-takes-all [] (p ∷ ps) h = absurd h
-takes-all (c ∷ cs) [] h = absurd h
-takes-all (c ∷ cs) (p ∷ ps) h =
-    rw (front c p (together ps) (h .0) .1)
-    (omega (arith, h .0 .long (together ps), takes-all cs ps (h .1), length-append p (together ps)))
+-- the most that a row's things take, a path having at most 64 siblings
+abbrev pub most : List Carried → ℕ
+most [] = 0
+most (c ∷ cs) = takes c (64 ∷ []) + most cs
 
-pub sound-all : (cs : List Carried) (ps : List (List ℕ)) → ShapedAll cs ps → soundAll cs (together ps) ≡ true
-sound-all [] [] h = refl
-sound-all [] (p ∷ ps) h = absurd h
-sound-all (c ∷ cs) [] h = absurd h
-sound-all (c ∷ cs) (p ∷ ps) h = rw (h .0 .fair (together ps), front c p (together ps) (h .0) .1) (sound-all cs ps (h .1))
+-- the things of a row, one behind the other
+pub record ShapedRow (cs : List Carried) (b : List ℕ) : Type 0 where
+  pub bytes : Bytes b
+  pub long : takesAll cs b ≡ length b
+  pub fair : soundAll cs b ≡ true
+  pub short : length b ≤ most cs
+
+pub shaped-row : (cs : List Carried) (ps : List (List ℕ)) → ShapedAll cs ps → ShapedRow cs (together ps)
+shaped-row [] [] h = record { bytes = tt; long = refl; fair = refl; short = omega arith }
+shaped-row [] (p ∷ ps) h = absurd h
+shaped-row (c ∷ cs) [] h = absurd h
+shaped-row (c ∷ cs) (p ∷ ps) h =
+    let rest = together ps in
+    let r = shaped-row cs ps (h .1) in
+    let past = front c p rest (h .0) .1 in
+    let n = length-append p rest in
+    record {
+      bytes = bytes-append p rest (h .0 .bytes) (r .bytes);
+      long = rw past (omega (arith, h .0 .long rest, r .long));
+      fair = rw (h .0 .fair rest, past) (r .fair);
+      short = omega (arith, h .0 .short, r .short);
+    }
 
 pub part-at : (cs : List Carried) (ps : List (List ℕ)) (i : ℕ) → ShapedAll cs ps → part cs (together ps) i ≡ getD ps i []
 part-at [] [] i h = refl
@@ -77,23 +92,6 @@ part-at [] (p ∷ ps) i h = absurd h
 part-at (c ∷ cs) [] i h = absurd h
 part-at (c ∷ cs) (p ∷ ps) zero h = front c p (together ps) (h .0) .0
 part-at (c ∷ cs) (p ∷ ps) (suc i) h = rw (front c p (together ps) (h .0) .1) (part-at cs ps i (h .1))
-
-pub bytes-all : (cs : List Carried) (ps : List (List ℕ)) → ShapedAll cs ps → Bytes (together ps)
-bytes-all [] [] h = tt
-bytes-all [] (p ∷ ps) h = absurd h
-bytes-all (c ∷ cs) [] h = absurd h
-bytes-all (c ∷ cs) (p ∷ ps) h = bytes-append p (together ps) (h .0 .bytes) (bytes-all cs ps (h .1))
-
--- the most that a row's things take, a path having at most 64 siblings
-abbrev pub most : List Carried → ℕ
-most [] = 0
-most (c ∷ cs) = takes c (64 ∷ []) + most cs
-
-pub short-all : (cs : List Carried) (ps : List (List ℕ)) → ShapedAll cs ps → length (together ps) ≤ most cs
-short-all [] [] h = omega arith
-short-all [] (p ∷ ps) h = absurd h
-short-all (c ∷ cs) [] h = absurd h
-short-all (c ∷ cs) (p ∷ ps) h = omega (arith, h .0 .short, short-all cs ps (h .1), length-append p (together ps))
 
 -- ── numbers, digests, records, paths ──
 
