@@ -17,8 +17,6 @@ pub record Spot (q : ℕ) (L : List Leaf) : Type 0 where
   pub a : ℕ
   pub b : ℕ
   pub w : Dig
-  pub a-positive : 0 < a
-  pub b-positive : 0 < b
   pub gap : Gap a b q
   pub on : 0 < count (points a b w) L
 
@@ -27,8 +25,6 @@ pub record Near (q : ℕ) (v : Dig) (L : List Leaf) : Type 0 where
   pub a : ℕ
   pub b : ℕ
   pub w : Dig
-  pub a-positive : 0 < a
-  pub b-positive : 0 < b
   pub gap : Gap a b q
   pub on : 0 < count (points a q w) L
   pub next : 0 < count (points q b v) L
@@ -39,8 +35,6 @@ spot-behind x t =
       a = t .a;
       b = t .b;
       w = t .w;
-      a-positive = t .a-positive;
-      b-positive = t .b-positive;
       gap = t .gap;
       on = count-tail _ _ _ (t .on);
     }
@@ -51,8 +45,6 @@ near-behind x t =
       a = t .a;
       b = t .b;
       w = t .w;
-      a-positive = t .a-positive;
-      b-positive = t .b-positive;
       gap = t .gap;
       on = count-tail _ _ _ (t .on);
       next = count-tail _ _ _ (t .next);
@@ -61,25 +53,25 @@ near-behind x t =
 module _ {R : Type 0} (h : R → Dig) where
   -- ── the leaf of a listed item ──
 
-  item-chain : (q : ℕ) (s : R) (a : ℕ) (r : R) (l : List (Item R)) (z : ℕ) → 0 < z → Ascending a l → Listed q s (item a r ∷ l)
-      → (c : ℕ) × (0 < c) × (0 < count (points q c (h s)) (chainOf h a r l z))
-  item-chain q s a r [] z hz g m = go (List·Memᴰ·cases-cons m)
+  item-chain : (q : ℕ) (s : R) (a : ℕ) (r : R) (l : List (Item R)) (z : ℕ) → Listed q s (item a r ∷ l)
+      → (c : ℕ) × (0 < count (points q c (h s)) (chainOf h a r l z))
+  item-chain q s a r [] z m = go (List·Memᴰ·cases-cons m)
     where
-      go : (item q s ≡ item a r) ⊎ Listed q s [] → (c : ℕ) × (0 < c) × (0 < count (points q c (h s)) (points a z (h r) ∷ []))
-      go (inl e) = (z, hz, count-head _ _ _ (cc))
+      go : (item q s ≡ item a r) ⊎ Listed q s [] → (c : ℕ) × (0 < count (points q c (h s)) (points a z (h r) ∷ []))
+      go (inl e) = (z, count-head _ _ _ (cc))
       go (inr k) = elim k [ ]
-  item-chain q s a r (item b t ∷ l) z hz g m = go (List·Memᴰ·cases-cons m) (λ k. item-chain q s b t l z hz (g .1) k)
+  item-chain q s a r (item b t ∷ l) z m = go (List·Memᴰ·cases-cons m) (item-chain q s b t l z)
     where
       go : (item q s ≡ item a r) ⊎ Listed q s (item b t ∷ l)
-          → (Listed q s (item b t ∷ l) → (c : ℕ) × (0 < c) × (0 < count (points q c (h s)) (chainOf h b t l z)))
-          → (c : ℕ) × (0 < c) × (0 < count (points q c (h s)) (points a b (h r) ∷ chainOf h b t l z))
-      go (inl e) f = (b, omega (arith, g .0), count-head _ _ _ (cc))
-      go (inr k) f = let u = f k in (u .0, u .1, count-tail _ _ _ (u .2))
+          → (Listed q s (item b t ∷ l) → (c : ℕ) × (0 < count (points q c (h s)) (chainOf h b t l z)))
+          → (c : ℕ) × (0 < count (points q c (h s)) (points a b (h r) ∷ chainOf h b t l z))
+      go (inl e) f = (b, count-head _ _ _ (cc))
+      go (inr k) f = let u = f k in (u .0, count-tail _ _ _ (u .1))
 
-  pub item-leaf : (q : ℕ) (s : R) (ls : List (Item R)) → Ascending 0 ls → Listed q s ls
-      → (c : ℕ) × (0 < c) × (0 < count (points q c (h s)) (ring h ls))
-  item-leaf q s [] g m = elim m [ ]
-  item-leaf q s (item a r ∷ l) g m = item-chain q s a r l a (g .0) (g .1) m
+  pub item-leaf : (q : ℕ) (s : R) (ls : List (Item R)) → Listed q s ls
+      → (c : ℕ) × (0 < count (points q c (h s)) (ring h ls))
+  item-leaf q s [] m = elim m [ ]
+  item-leaf q s (item a r ∷ l) m = item-chain q s a r l a m
 
   -- the last leaf of a chain
   last-leaf : (a : ℕ) (r : R) (l : List (Item R)) (z : ℕ) → Ascending a l
@@ -91,20 +83,18 @@ module _ {R : Type 0} (h : R → Dig) where
 
   -- ── the leaf in whose gap an unlisted number lies ──
 
-  spot-chain : (q a : ℕ) (r : R) (l : List (Item R)) (z : ℕ) → 0 < z → z ≤ a → Ascending a l → a < q → Unlisted q l
+  spot-chain : (q a : ℕ) (r : R) (l : List (Item R)) (z : ℕ) → z ≤ a → Ascending a l → a < q → Unlisted q l
       → Spot q (chainOf h a r l z)
-  spot-chain q a r [] z hz hza g k f =
+  spot-chain q a r [] z hz g k f =
       record {
         a = a;
         b = z;
         w = h r;
-        a-positive = omega arith;
-        b-positive = hz;
-        gap = beyond hza k;
+        gap = beyond hz k;
         on = count-head _ _ _ refl;
       }
-  spot-chain q a r (item b s ∷ l) z hz hza g k f =
-      go (decLt q b) (λ j. spot-chain q b s l z hz (omega (arith, g .0)) (g .1) j (f .1))
+  spot-chain q a r (item b s ∷ l) z hz g k f =
+      go (decLt q b) (λ j. spot-chain q b s l z (omega (arith, g .0)) (g .1) j (f .1))
     where
       go : Dec (q < b) → (b < q → Spot q (chainOf h b s l z)) → Spot q (points a b (h r) ∷ chainOf h b s l z)
       go (yes j) u =
@@ -112,8 +102,6 @@ module _ {R : Type 0} (h : R → Dig) where
             a = a;
             b = b;
             w = h r;
-            a-positive = omega arith;
-            b-positive = omega arith;
             gap = between k j;
             on = count-head _ _ _ refl;
           }
@@ -130,20 +118,18 @@ module _ {R : Type 0} (h : R → Dig) where
             a = t .0;
             b = a;
             w = t .1;
-            a-positive = omega (arith, g .0, t .2);
-            b-positive = g .0;
             gap = before (t .2) hq j;
             on = t .3;
           }
-      go (no n) = spot-chain q a r l a (g .0) (omega arith) (g .1) (omega (arith, f .0)) (f .1)
+      go (no n) = spot-chain q a r l a (omega arith) (g .1) (omega (arith, f .0)) (f .1)
 
   -- ── a listed item with its two leaves, where another item is listed too ──
 
-  near-chain : (q : ℕ) (s : R) (a : ℕ) (r : R) (l : List (Item R)) (z : ℕ) → 0 < z → z ≤ a → Ascending a l → Listed q s l
+  near-chain : (q : ℕ) (s : R) (a : ℕ) (r : R) (l : List (Item R)) (z : ℕ) → z ≤ a → Ascending a l → Listed q s l
       → Near q (h s) (chainOf h a r l z)
-  near-chain q s a r [] z hz hza g m = elim m [ ]
-  near-chain q s a r (item b t ∷ l) z hz hza g m =
-      go (List·Memᴰ·cases-cons m) (λ k. near-chain q s b t l z hz (omega (arith, g .0)) (g .1) k)
+  near-chain q s a r [] z hz g m = elim m [ ]
+  near-chain q s a r (item b t ∷ l) z hz g m =
+      go (List·Memᴰ·cases-cons m) (λ k. near-chain q s b t l z (omega (arith, g .0)) (g .1) k)
     where
       here : (l : List (Item R)) → Ascending b l → item q s ≡ item b t
           → Near q (h s) (points a b (h r) ∷ chainOf h b t l z)
@@ -153,9 +139,7 @@ module _ {R : Type 0} (h : R → Dig) where
             a = a;
             b = z;
             w = h r;
-            a-positive = omega arith;
-            b-positive = hz;
-            gap = beyond hza (omega (arith, g .0));
+            gap = beyond hz (omega (arith, g .0));
             on = count-head _ _ _ (cc);
             next = count-tail _ _ _ (count-head _ _ _ (cc));
           }
@@ -165,8 +149,6 @@ module _ {R : Type 0} (h : R → Dig) where
             a = a;
             b = c;
             w = h r;
-            a-positive = omega arith;
-            b-positive = omega (arith, k .0);
             gap = between (omega (arith, g .0)) (omega (arith, k .0));
             on = count-head _ _ _ (cc);
             next = count-tail _ _ _ (count-head _ _ _ (cc));
@@ -190,10 +172,8 @@ module _ {R : Type 0} (h : R → Dig) where
             a = u .0;
             b = b;
             w = u .1;
-            a-positive = omega (arith, g .1 .0, u .2);
-            b-positive = omega (arith, g .1 .0);
             gap = before (u .2) (omega (arith, g .0)) (omega (arith, g .1 .0));
             on = count-tail _ _ _ m′;
             next = count-head _ _ _ (cc);
           }
-      go (inr k) = near-chain q s a r (item b t ∷ l) a (g .0) (omega arith) (g .1) k
+      go (inr k) = near-chain q s a r (item b t ∷ l) a (omega arith) (g .1) k

@@ -68,10 +68,10 @@ module _ (D : List ℕ → Dig) (D32 : (l : List ℕ) → length (D l) ≡ 32) (
       by-order (inl u) = R.place digestD A A′ B′ ω formed u
       by-order (inr u) = R.place-flipped digestD A A′ B′ ω formed u
 
-  -- 0b adopt
+  -- 0b adopt: what its memorandum stands for is done, and was legal
   pub adopt : {y y′ : Dig} {c : List Step} (T : Tree) (ls : List (Item Record)) → MeansEI digestD F y y′ c → hashOf D T ≡ y
       → StandsFor digestD F T ls → Fault digestD F ⊎ Moved digestD F y′ c ls
-  adopt T ls m e g = L.adopt digestD T ls m (sym (hash-is D D32 T) ∙ e) g
+  adopt T ls m e g = m .forth F (λ s i. i) T ls (sym (hash-is D D32 T) ∙ e) g
 
   -- a leaf's strings: the record is known and the leaf formed
   known : (A A′ : ℕ) (r : Record) → malformed r ≡ false → Within (leafForms D A A′ r) F → Known digestD F r

@@ -1,4 +1,5 @@
--- What kinds 0b to 0f do, or find, where a tree stands for the list: adopt, set and clear, ask, and ask of none.
+-- What kinds 0c to 0f do, or find, where a tree stands for the list: set and clear, ask, and ask of none. (Adopt does what its
+-- EI means: `InPaper`.)
 use mathlib.Core.Path.{_≡_, refl, sym, subst, _∙_}
 use mathlib.Core.List.{List, [], List·Memᴰ}
 use mathlib.Core.Logic.{_⊎_, inr}
@@ -8,7 +9,6 @@ use Rattle.paper.specs.declared.Record.{Record}
 use Rattle.paper.specs.Strings.{Dig, nought, Str, leaf}
 use Rattle.rings.specs.Trees.{Leaf, points, Tree, tip, one, count}
 use Rattle.rings.specs.Lists.{Item, Listed, Unlisted, putRecord, ring}
-use Rattle.rings.specs.Changes.{Step}
 use Rattle.rings.proofs.Counting.{one-self, count-nil, count-only, occurs}
 use Rattle.rings.proofs.Nodes.{_∈_, hash, Fault, _>>=_, no-leaf, only-leaf}
 use Rattle.rings.proofs.Align.{Sibling, fold, PathIn, Hole, align}
@@ -17,7 +17,7 @@ use Rattle.rings.proofs.Items.{AllRecords, record-at, put-ascending, pu
 use Rattle.rings.proofs.Ring.{leaf-item, gap-free}
 use Rattle.rings.proofs.RingChanges.{put-ring}
 use Rattle.rings.proofs.Records.{hashRecord, Known, same-record}
-use Rattle.rings.proofs.Memos.{StandsFor, MeansU1, MeansV1, MeansEI, Moved}
+use Rattle.rings.proofs.Memos.{StandsFor, MeansU1, MeansV1}
 use Rattle.rings.proofs.RingKinds.{no-items}
 
 module _ (D : Str → Dig) where
@@ -26,12 +26,6 @@ module _ (D : Str → Dig) where
 
   abbrev leafOf : (A B : ℕ) → Record → Str
   leafOf A B r = leaf A B (hashRecord D r)
-
-  -- ── 0b adopt: what its memorandum stands for is done, and was legal ──
-
-  pub adopt : {F : List Str} {y y′ : Dig} {c : List Step} (T : Tree) (ls : List (Item Record)) → MeansEI D F y y′ c
-      → hash D T ≡ y → StandsFor D F T ls → Fault D F ⊎ Moved D F y′ c ls
-  adopt {F} T ls m e g = m .forth F (λ s i. i) T ls e g
 
   -- ── one place of a tree ──
 

@@ -84,8 +84,8 @@ module _ (D : Str → Dig) where
 
   -- ── more strings formed ──
 
-  u1-more : {F G : List Str} {x y x′ y′ : Dig} → Within F G → MeansU1 F x y x′ y′ → MeansU1 G x y x′ y′
-  u1-more {F} {G} {x} {y} {x′} s m =
+  pub means-more : {F G : List Str} (m : Memo) (c : List Step) → Within F G → Means F m c → Means G m c
+  means-more (u1 x y x′ y′) c s m =
       record {
         path = m .path;
         up = m .up;
@@ -93,32 +93,19 @@ module _ (D : Str → Dig) where
         on = path-more D (m .path) x s (m .on);
         on′ = path-more D (m .path) x′ s (m .on′);
       }
-
-  v1-more : {F G : List Str} {x y : Dig} → Within F G → MeansV1 F x y → MeansV1 G x y
-  v1-more {F} {G} {x} s m = record { path = m .path; up = m .up; on = path-more D (m .path) x s (m .on) }
-
-  u2-more : {F G : List Str} {x₁ x₂ y x₁′ x₂′ y′ : Dig} → Within F G → MeansU2 F x₁ x₂ y x₁′ x₂′ y′
-      → MeansU2 G x₁ x₂ y x₁′ x₂′ y′
-  u2-more {F} {G} {x₁} {x₂} {y} {x₁′} {x₂′} s m =
+  means-more (v1 x y) c s m = record { path = m .path; up = m .up; on = path-more D (m .path) x s (m .on) }
+  means-more (u2 x1 x2 y x1′ x2′ y′) c s m =
       record {
         p₁ = m .p₁;
         p₂ = m .p₂;
         q = m .q;
         up = m .up;
         up′ = m .up′;
-        on = paths-more D (m .p₁) (m .p₂) (m .q) x₁ x₂ s (m .on);
-        on′ = paths-more D (m .p₁) (m .p₂) (m .q) x₁′ x₂′ s (m .on′);
+        on = paths-more D (m .p₁) (m .p₂) (m .q) x1 x2 s (m .on);
+        on′ = paths-more D (m .p₁) (m .p₂) (m .q) x1′ x2′ s (m .on′);
       }
-
-  ei-more : {F G : List Str} {y y′ : Dig} {c : List Step} → Within F G → MeansEI F y y′ c → MeansEI G y y′ c
-  ei-more s m =
+  means-more (ei y y′) c s m =
       record {
         forth = λ G t T ls e g. m .forth G (λ z i. t z (s z i)) T ls e g;
         back = λ G t T ls e g. m .back G (λ z i. t z (s z i)) T ls e g;
       }
-
-  pub means-more : {F G : List Str} (m : Memo) (c : List Step) → Within F G → Means F m c → Means G m c
-  means-more (u1 x y x′ y′) c s h = u1-more s h
-  means-more (v1 x y) c s h = v1-more s h
-  means-more (u2 x1 x2 y x1′ x2′ y′) c s h = u2-more s h
-  means-more (ei y y′) c s h = ei-more s h

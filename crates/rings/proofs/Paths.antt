@@ -3,8 +3,7 @@
 use mathlib.Core.Bool.{Bool, true, false}
 use mathlib.Core.Path.{_≡_, refl, sym, ap, subst, _∙_}
 use mathlib.Core.List.{List, [], _∷_, _++_, Memᴰ·append-left, Memᴰ·append-right}
-use Prim.Native.Nat.{ℕ, _+_, _*_, _/_, _%_}
-use native.Mathlib.Omega.{arith}
+use Prim.Native.Nat.{ℕ, _/_, _%_}
 use lib.Dec.{eqb}
 use lib.ListN.{length}
 use Rattle.seqs.specs.Choose.{pick}
@@ -17,38 +16,16 @@ use Rattle.rings.proofs.Bridge.{node-in, parent-is, parent-32}
 -- ── siblings and their sides ──
 
 -- "Bit j of sides, lowest bit first, is 1 if sibling j stands on the left"
-abbrev pub sibling : (bit : ℕ) → Dig → Sibling
+abbrev sibling : (bit : ℕ) → Dig → Sibling
 sibling bit s = pick (eqb bit 1) (left s) (right s)
 
-abbrev pub lowestFirst : (sides : ℕ) → List Dig → List Sibling
+abbrev lowestFirst : (sides : ℕ) → List Dig → List Sibling
 lowestFirst sides [] = []
 lowestFirst sides (s ∷ l) = sibling (sides % 2) s ∷ lowestFirst (sides / 2) l
 
-abbrev pub topFirst : List Sibling → List Sibling
+abbrev topFirst : List Sibling → List Sibling
 topFirst [] = []
 topFirst (s ∷ p) = topFirst p ++ (s ∷ [])
-
--- a path's sides and siblings, to be put into a line
-abbrev pub sidesOf : List Sibling → ℕ
-sidesOf [] = 0
-sidesOf (left s ∷ p) = 1 + 2 * sidesOf p
-sidesOf (right s ∷ p) = 2 * sidesOf p
-
-abbrev pub digestsOf : List Sibling → List Dig
-digestsOf [] = []
-digestsOf (left s ∷ p) = s ∷ digestsOf p
-digestsOf (right s ∷ p) = s ∷ digestsOf p
-
-pub carried : (p : List Sibling) → lowestFirst (sidesOf p) (digestsOf p) ≡ p
-carried [] = refl
-carried (left s ∷ p) =
-    let e : (1 + 2 * sidesOf p) % 2 ≡ 1 = omega arith in
-    let f : (1 + 2 * sidesOf p) / 2 ≡ sidesOf p = omega arith in
-    rw (e, f, carried p) refl
-carried (right s ∷ p) =
-    let e : 2 * sidesOf p % 2 ≡ 0 = omega arith in
-    let f : 2 * sidesOf p / 2 ≡ sidesOf p = omega arith in
-    rw (e, f, carried p) refl
 
 -- every sibling has 32 bytes
 abbrev pub AllWide : List Dig → Type 0
@@ -58,14 +35,14 @@ AllWide (s ∷ l) = (length s ≡ 32) × AllWide l
 -- ── up a path, the lowest sibling first ──
 
 module _ (D : Str → Dig) where
-  abbrev pub over : Sibling → Dig → Dig
+  abbrev over : Sibling → Dig → Dig
   over s x = fold D (s ∷ []) x
 
-  abbrev pub rise : List Sibling → Dig → Dig
+  abbrev rise : List Sibling → Dig → Dig
   rise [] x = x
   rise (s ∷ p) x = rise p (over s x)
 
-  pub rise-fold : (p : List Sibling) (x : Dig) → fold D (topFirst p) x ≡ rise p x
+  rise-fold : (p : List Sibling) (x : Dig) → fold D (topFirst p) x ≡ rise p x
   rise-fold [] x = refl
   rise-fold (s ∷ p) x = fold-append D (topFirst p) (s ∷ []) x ∙ rise-fold p (over s x)
 
@@ -92,7 +69,7 @@ module _ (D : List ℕ → Dig) (D32 : (l : List ℕ) → length (D l) ≡ 32) w
   fold-up-32 x sides (s ∷ l) hx hl =
       fold-up-32 (up D x s (sides % 2)) (sides / 2) l (level-32 (eqb (sides % 2) 1) s x (hl .0) hx) (hl .1)
 
-  pub fold-up-is : (x : Dig) (sides : ℕ) (l : List Dig) → length x ≡ 32 → AllWide l
+  fold-up-is : (x : Dig) (sides : ℕ) (l : List Dig) → length x ≡ 32 → AllWide l
       → foldUp D x sides l ≡ rise (digest D) (lowestFirst sides l) x
   fold-up-is x sides [] hx hl = refl
   fold-up-is x sides (s ∷ l) hx hl =
@@ -100,7 +77,7 @@ module _ (D : List ℕ → Dig) (D32 : (l : List ℕ) → length (D l) ≡ 32) w
       fold-up-is (up D x s (sides % 2)) (sides / 2) l (level-32 b s x (hl .0) hx) (hl .1)
       ∙ ap (rise (digest D) (lowestFirst (sides / 2) l)) (level-is b s x (hl .0) hx)
 
-  pub fold-forms-in : (F : List Str) (x : Dig) (sides : ℕ) (l : List Dig) → length x ≡ 32 → AllWide l
+  fold-forms-in : (F : List Str) (x : Dig) (sides : ℕ) (l : List Dig) → length x ≡ 32 → AllWide l
       → Within (foldForms D x sides l) F → PathIn (digest D) F (topFirst (lowestFirst sides l)) x
   fold-forms-in F x sides [] hx hl i = tt
   fold-forms-in F x sides (s ∷ l) hx hl i =

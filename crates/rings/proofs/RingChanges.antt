@@ -104,22 +104,22 @@ module _ {R : Type 0} (h : R → Dig) where
 
   -- ── putting a record: one leaf has another hash ──
 
-  put-head : (B : ℕ) (w : Dig) (r : R) (a : ℕ) (s : R) (l : List (Item R)) (z : ℕ) → Ascending a l
-      → 0 < count (points a B w) (chainOf h a s l z) → (x : Leaf)
-      → count x (chainOf h a r l z) + one x (points a B w) ≡ count x (chainOf h a s l z) + one x (points a B (h r))
-  put-head B w r a s [] z g m x =
+  put-head : (A B : ℕ) (w : Dig) (r : R) (a : ℕ) (s : R) (l : List (Item R)) (z : ℕ) → A ≡ a → Ascending a l
+      → 0 < count (points A B w) (chainOf h a s l z) → (x : Leaf)
+      → count x (chainOf h a r l z) + one x (points A B w) ≡ count x (chainOf h a s l z) + one x (points A B (h r))
+  put-head A B w r a s [] z p g m x =
       let e = count-single _ _ m in
-      let e′ : points a B (h r) ≡ points a z (h r) = cc in
+      let e′ : points A B (h r) ≡ points a z (h r) = cc in
       simp (count-cons, count-nil) (omega (arith, ap (one x) e, ap (one x) e′))
-  put-head B w r a s (item b t ∷ l) z g m x = go (count-cases _ _ _ m)
+  put-head A B w r a s (item b t ∷ l) z p g m x = go (count-cases _ _ _ m)
     where
-      go : (points a B w ≡ points a b (h s)) ⊎ (0 < count (points a B w) (chainOf h b t l z))
-          → count x (points a b (h r) ∷ chainOf h b t l z) + one x (points a B w)
-          ≡ count x (points a b (h s) ∷ chainOf h b t l z) + one x (points a B (h r))
+      go : (points A B w ≡ points a b (h s)) ⊎ (0 < count (points A B w) (chainOf h b t l z))
+          → count x (points a b (h r) ∷ chainOf h b t l z) + one x (points A B w)
+          ≡ count x (points a b (h s) ∷ chainOf h b t l z) + one x (points A B (h r))
       go (inl e) =
-          let e′ : points a B (h r) ≡ points a b (h r) = cc in
+          let e′ : points A B (h r) ≡ points a b (h r) = cc in
           simp count-cons (omega (arith, ap (one x) e, ap (one x) e′))
-      go (inr u) = absurd (omega (arith, g .0, (bounds h a B w b t l z (g .1) u) .0))
+      go (inr u) = absurd (omega (arith, g .0, (bounds h A B w b t l z (g .1) u) .0))
 
   put-tail : (A B : ℕ) (w : Dig) (r : R) (a : ℕ) (s : R) (l : List (Item R)) (z : ℕ) → A ≢ a → Ascending a l
       → 0 < count (points A B w) (chainOf h a s l z) → (x : Leaf)
@@ -137,12 +137,7 @@ module _ {R : Type 0} (h : R → Dig) where
           → count x (chainOf h a s (pick d (item b r ∷ l) (item b t ∷ putRecord A r l)) z) + one x (points A B w)
           ≡ count x (points a b (h s) ∷ chainOf h b t l z) + one x (points A B (h r))
       go d i (inl e) f = absurd (n (cc))
-      go true i (inr u) f =
-          let p : A ≡ b = eqb-true A b i in
-          let u′ : 0 < count (points b B w) (chainOf h b t l z) = rw p at u in
-          let e₁ : points b B w ≡ points A B w = cc in
-          let e₂ : points b B (h r) ≡ points A B (h r) = cc in
-          simp count-cons (omega (arith, put-head B w r b t l z (g .1) u′ x, ap (one x) e₁, ap (one x) e₂))
+      go true i (inr u) f = simp count-cons (omega (arith, put-head A B w r b t l z (eqb-true A b i) (g .1) u x))
       go false i (inr u) f = simp count-cons (omega (arith, f (eqb-false A b i) u))
 
   pub put-ring : (A B : ℕ) (w : Dig) (r : R) (ls : List (Item R)) → Ascending 0 ls → 0 < count (points A B w) (ring h ls)
@@ -154,12 +149,7 @@ module _ {R : Type 0} (h : R → Dig) where
       go : (d : Bool) → eqb A a ≡ d
           → count x (ring h (pick d (item a r ∷ l) (item a s ∷ putRecord A r l))) + one x (points A B w)
           ≡ count x (chainOf h a s l a) + one x (points A B (h r))
-      go true i =
-          let p : A ≡ a = eqb-true A a i in
-          let u′ : 0 < count (points a B w) (chainOf h a s l a) = rw p at m in
-          let e₁ : points a B w ≡ points A B w = cc in
-          let e₂ : points a B (h r) ≡ points A B (h r) = cc in
-          omega (arith, put-head B w r a s l a (g .1) u′ x, ap (one x) e₁, ap (one x) e₂)
+      go true i = put-head A B w r a s l a (eqb-true A a i) (g .1) m x
       go false i = put-tail A B w r a s l a (eqb-false A a i) (g .1) m x
 
   -- ── inserting an item: the leaf in whose gap it lies leads to it, and it leads on ──

@@ -7,7 +7,7 @@ use native.Mathlib.Omega.{arith}
 use Rattle.paper.specs.declared.Record.{Record}
 use Rattle.paper.specs.Strings.{Dig, Str}
 use Rattle.rings.specs.Trees.{points, Tree, empty, tip, branch, leaves, Permuted}
-use Rattle.rings.specs.Lists.{Item, item, Ascending, Listed, ring}
+use Rattle.rings.specs.Lists.{Item, item, Listed, ring}
 use Rattle.rings.proofs.Counting.{count-append}
 use Rattle.rings.proofs.Nodes.{hash, TreeIn, Fault, _>>=_, no-leaf, only-leaf}
 use Rattle.rings.proofs.Align.{split}
@@ -33,15 +33,15 @@ module _ (D : Str → Dig) where
     inr (λ x. omega (arith, a x, b x, s .cut x, count-append x (leaves l) (leaves r)))
 
   -- each item of the part l of ls is listed in m, where their rings are the same
-  into : {F : List Str} (ls l m : List (Item Record)) → Ascending 0 ls → AllRecords (Known D F) ls → AllRecords (Known D F) m
+  into : {F : List Str} (ls l m : List (Item Record)) → AllRecords (Known D F) ls → AllRecords (Known D F) m
       → Permuted (ring (hashRecord D) ls) (ring (hashRecord D) m) → Into l ls → Fault D F ⊎ Into l m
-  into ls [] m g k k′ f s = inr (λ a r i. elim i [ ])
-  into {F} ls (item a r ∷ l) m g k k′ f s = do
+  into ls [] m k k′ f s = inr (λ a r i. elim i [ ])
+  into {F} ls (item a r ∷ l) m k k′ f s = do
     let here = s a r (List·Memᴰ·head refl)
-    let i = item-leaf (hashRecord D) a r ls g here
+    let i = item-leaf (hashRecord D) a r ls here
     let kr = record-at (Known D F) ls a r k here
-    h ← leaf-record D a (i .0) r m kr k′ (omega (arith, f (points a (i .0) (hashRecord D r)), i .2))
-    t ← into ls l m g k k′ f (λ b q j. s b q (List·Memᴰ·tail j))
+    h ← leaf-record D a (i .0) r m kr k′ (omega (arith, f (points a (i .0) (hashRecord D r)), i .1))
+    t ← into ls l m k k′ f (λ b q j. s b q (List·Memᴰ·tail j))
     inr (λ b q j. on b q h t (List·Memᴰ·cases-cons j))
     where
       on : (b : ℕ) (q : Record) → Listed a r m → Into l m → (item b q ≡ item a r) ⊎ Listed b q l → Listed b q m
@@ -53,6 +53,6 @@ module _ (D : Str → Dig) where
   same-list T U l m e g h = do
     p ← same-leaves T U e (g .tree-in) (h .tree-in)
     let c : Permuted (ring (hashRecord D) l) (ring (hashRecord D) m) = λ x. omega (arith, g .permuted x, h .permuted x, p x)
-    f ← into l l m (g .ascending) (g .known) (h .known) c (λ a r i. i)
-    k ← into m m l (h .ascending) (h .known) (g .known) (λ x. sym (c x)) (λ a r i. i)
+    f ← into l l m (g .known) (h .known) c (λ a r i. i)
+    k ← into m m l (h .known) (g .known) (λ x. sym (c x)) (λ a r i. i)
     inr (same-items 0 l m (g .ascending) (h .ascending) f k)

@@ -73,8 +73,8 @@ module _ {D : List ℕ → Dig} {w : World} {T : Tree} (g : Ground D w T) where
     where
       by-list : Unlisted q (w .items) ⊎ ((t : Record) × Listed q t (w .items)) → has (tellsOf q) T ≡ true
       by-list (inr t) =
-          let i = item-leaf (recordHash D) q (t .0) (w .items) (g .ascending) (t .1) in
-          spot-by g (tellsOf q) (points q (i .0) (recordHash D (t .0))) (rw (eq-eqb q q refl) refl) (i .2)
+          let i = item-leaf (recordHash D) q (t .0) (w .items) (t .1) in
+          spot-by g (tellsOf q) (points q (i .0) (recordHash D (t .0))) (rw (eq-eqb q q refl) refl) (i .1)
       by-list (inl u) =
           let i = spot (recordHash D) q a r l h (rw e at (g .ascending)) (rw e at u) in
           spot-by g (tellsOf q) (points (i .a) (i .b) (i .w)) (rw (gap-tells (i .gap), either-yes) refl) (rw e (i .on))

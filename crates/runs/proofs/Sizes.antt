@@ -76,9 +76,9 @@ decent D D32 w c h A r m =
     let dig = digest D in
     let g = c .stands in
     let k = record-at (Known dig (w .formed)) (w .items) A r (g .known) m in
-    let i = item-leaf (hashRecord dig) A r (w .items) (g .ascending) m in
+    let i = item-leaf (hashRecord dig) A r (w .items) m in
     let x = points A (i .0) (hashRecord dig r) in
-    let f = leaf-formed dig (w .formed) (c .tree) A (i .0) (hashRecord dig r) (g .tree-in) (omega (arith, g .permuted x, i .2)) in
+    let f = leaf-formed dig (w .formed) (c .tree) A (i .0) (hashRecord dig r) (g .tree-in) (omega (arith, g .permuted x, i .1)) in
     record {
       positive = listed-above 0 A r (w .items) (g .ascending) m;
       small = well-at (w .formed) _ h f .0;

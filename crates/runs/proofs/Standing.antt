@@ -80,8 +80,8 @@ module _ {D : List ℕ → Dig} {w : World} {T : Tree} (g : Ground D w T) where
   -- the leaf of a listed item
   pub of-item : (A : ℕ) (r : Record) → Listed A r (w .items) → has (isOf A) T ≡ true
   of-item A r m =
-      let i = item-leaf (recordHash D) A r (w .items) (g .ascending) m in
-      spot-by (isOf A) (points A (i .0) (recordHash D r)) (eq-eqb A A refl) (i .2)
+      let i = item-leaf (recordHash D) A r (w .items) m in
+      spot-by (isOf A) (points A (i .0) (recordHash D r)) (eq-eqb A A refl) (i .1)
 
   -- it holds the item's record
   pub item-digest : (A : ℕ) (r : Record) → Listed A r (w .items) → (p : Leaf → Bool) (t : Spotted p) → A ≡ itemOf (found p T)
