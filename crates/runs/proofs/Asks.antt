@@ -17,7 +17,7 @@ use Rattle.paper.specs.Refusals.{leafOf, needs}
 use Rattle.paper.specs.Answers.{findingOf}
 use Rattle.paper.specs.Module.{Told}
 use Rattle.rings.specs.Trees.{Leaf, points, Tree, empty, tip, branch, leaves, hashOf, count}
-use Rattle.rings.specs.Lists.{item, Listed, Unlisted, ring}
+use Rattle.rings.specs.Lists.{item, Listed, Unlisted}
 use Rattle.rings.proofs.Counting.{one-self, count-nil, count-cons, count-append, occurs}
 use Rattle.rings.proofs.Gaps.{gap-holds, gap-tells}
 use Rattle.rings.proofs.Items.{listed?}
@@ -38,7 +38,7 @@ use Rattle.runs.proofs.Sizes.{record-is, Decent}
 use Rattle.runs.proofs.Fed.{at, run, told-is, Leads, leads-on, leads-one, Got, then, Brings, brings}
 use Rattle.runs.proofs.Reach.{is-open, note-digest, fits-own, one-place, witness-line}
 use Rattle.runs.proofs.Adopts.{not-zero, at-root}
-use Rattle.runs.proofs.Standing.{Ground, spot-by, spotted, item-digest}
+use Rattle.runs.proofs.Standing.{InRing, Ground, spot-by, spotted, item-digest}
 
 module _ (D : List ℕ → Dig) where
   -- the reply to the last of some requests
@@ -124,9 +124,7 @@ module _ {D : List ℕ → Dig} {w : World} {T : Tree} (g : Ground D w T) where
         let n : NoneFails (needs D s a) =
         is-open (g .ready) and not-zero q positive and not-zero A (d .positive) and not-zero A′ (t .next-positive)
         and d .sound and rw (t .passes) refl and fits-own (g .ready) (v1 x y) and at-root y (s .root) e and tt in
-        let on : 0 < count (points A A′ (recordHash D r)) (ring (recordHash D) (w .items)) =
-        subst (λ (u : Leaf). 0 < count u (ring (recordHash D) (w .items)))
-        (at-z z (recordHash D r) (ap (recordHash D) k ∙ t .hash-is)) (t .in-ring) in
+        let on = subst (InRing D w) (at-z z (recordHash D r) (ap (recordHash D) k ∙ t .hash-is)) (t .in-ring) in
         let listed : Listed A r (w .items) = subst (λ (u : Record). Listed A u (w .items)) (sym k) (t .listed) in
         let true-of = true-finding D (λ l. DD l .wide) (w .formed) (w .items) q A A′ r (d .sound) (t .passes) (
           listed,

@@ -7,7 +7,7 @@ use Prim.Native.Nat.{ℕ}
 use Rattle.seqs.specs.Choose.{pick, either}
 use Rattle.seqs.specs.Bytes.{same, same-true}
 use Rattle.paper.specs.Strings.{Dig, Memo, Str, leaf, node, entry, memo, digest}
-use Rattle.rings.proofs.Nodes.{_∈_, Within, Fault, same-string}
+use Rattle.rings.proofs.Nodes.{_∈_, Within, Fault, _>>=_, instead, same-string}
 use Rattle.rings.proofs.Memos.{Means, means-more}
 use Rattle.runs.specs.Run.{Issue, Reading, earliest, last, entered, standsFor, isIssued}
 
@@ -66,13 +66,9 @@ module _ (D : List ℕ → Dig) where
   look {F} m t k (j ∷ b) h i e = here (same (j .memorandum) m) refl (look m t k b (h .1) i e)
     where
       hit : j .memorandum ≡ m → (Fault (digest D) F ⊎ (true ≡ false)) ⊎ Means (digest D) F t (j .does)
-      hit p = found (same-string (digest D) (h .0 .formed) i (h .0 .memorandum-is ∙ p ∙ sym e))
-        where
-          found : Fault (digest D) F ⊎ (memo (h .0 .says) (h .0 .key) ≡ memo t k)
-              → (Fault (digest D) F ⊎ (true ≡ false)) ⊎ Means (digest D) F t (j .does)
-          found (inl f) = inl (inl f)
-          found (inr q) = inr (subst (λ (u : Memo). Means (digest D) F u (j .does)) (ap (λ (s : Str). says-of s t) q)
-              (h .0 .means))
+      hit p = do
+        q ← instead inl (same-string (digest D) (h .0 .formed) i (h .0 .memorandum-is ∙ p ∙ sym e))
+        inr (subst (λ (u : Memo). Means (digest D) F u (j .does)) (ap (λ (s : Str). says-of s t) q) (h .0 .means))
 
       here : (c : Bool) → same (j .memorandum) m ≡ c
           → (Fault (digest D) F ⊎ (isIssued m b ≡ false)) ⊎ Means (digest D) F t (standsFor m b)

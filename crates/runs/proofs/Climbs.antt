@@ -61,16 +61,10 @@ cut-whole room [] = refl
 cut-whole zero (v ∷ p) = ap (λ (q : Way). v ∷ q) (cut-whole _ p)
 cut-whole (suc room) (v ∷ p) = ap (λ (q : Way). v ∷ q) (cut-whole room p)
 
-cut-short : (room : ℕ) (p : Way) → room ≤ 64 → (length (cut room p .lowest) ≤ room) × AllShort (cut room p .higher)
+pub cut-short : (room : ℕ) (p : Way) → room ≤ 64 → (length (cut room p .lowest) ≤ room) × AllShort (cut room p .higher)
 cut-short room [] h = (omega arith, tt)
 cut-short zero (v ∷ p) h = let t = cut-short 63 p (omega arith) in (omega arith, (omega (arith, t .0), t .1))
 cut-short (suc room) (v ∷ p) h = let t = cut-short room p (omega arith) in (omega (arith, t .0), t .1)
-
-pub lowest-short : (p : Way) → length (cut 64 p .lowest) ≤ 64
-lowest-short p = cut-short 64 p (omega arith) .0
-
-pub higher-short : (p : Way) → AllShort (cut 64 p .higher)
-higher-short p = cut-short 64 p (omega arith) .1
 
 -- ── digests of 32 bytes ──
 

@@ -20,9 +20,9 @@ use Rattle.runs.specs.Run.{Items, World}
 use Rattle.runs.specs.Wishes.{IsListed}
 use Rattle.runs.specs.Ways.{itemOf, nextOf, hashIn, isOf, leadsTo, gapHolds, has, found, wayTo, Fork, forkOf, leftOne, rightOne, regrown, replacing, replacingTwo}
 use Rattle.runs.specs.Outcomes.{treeWith, treeWithout, treeSwapped, treeRewritten}
-use Rattle.runs.proofs.Places.{located, Forks, forked, around, count-plug, count-two, regrown-one, regrown-two}
-use Rattle.runs.proofs.Standing.{Ground, once, spotted, of-item}
-use Rattle.runs.proofs.Moves.{gap-found}
+use Rattle.runs.proofs.Places.{located, Forks, around, count-plug, count-two, regrown-one, regrown-two}
+use Rattle.runs.proofs.Standing.{InRing, Ground, once, spotted, of-item}
+use Rattle.runs.proofs.Moves.{two-items, gap-found}
 use Rattle.runs.proofs.Removes.{no-record-hash, Linked, linked-in, other-leaf, fork-of}
 
 leaf-is : (x : Leaf) (A B : ℕ) (v : Dig) → A ≡ itemOf x → B ≡ nextOf x → v ≡ hashIn x → x ≡ points A B v
@@ -53,16 +53,13 @@ module _ {D : List ℕ → Dig} {w : World} {T : Tree} (g : Ground D w T) where
       ap (λ (t : Tree). count v (leaves t)) (regrown-two x X y Y apart f T fork (once g x) (once g y))
       ∙ count-two v f (leftOne f X Y) (rightOne f X Y) in
       let old : count v (leaves T) ≡ _ =
-      ap (λ (t : Tree). count v (leaves t)) (sym fork) ∙ count-two v f (tip (leftOne f x y)) (tip (rightOne f x y)) in
-      omega (arith, new, old, trees (f .crossed), tips (f .crossed), single v x, single v y)
+      ap (λ (t : Tree). count v (leaves t)) (sym fork) ∙ count-two v f (leftOne f (tip x) (tip y)) (rightOne f (tip x) (tip y)) in
+      omega (arith, new, old, feet X Y (f .crossed), feet (tip x) (tip y) (f .crossed), single v x, single v y)
     where
-      trees : (c : Bool) → count v (leaves (pick c Y X)) + count v (leaves (pick c X Y)) ≡ count v (leaves X) + count v (leaves Y)
-      trees true = omega arith
-      trees false = omega arith
-
-      tips : (c : Bool) → count v (pick c y x ∷ []) + count v (pick c x y ∷ []) ≡ count v (x ∷ []) + count v (y ∷ [])
-      tips true = omega arith
-      tips false = omega arith
+      feet : (X Y : Tree) (c : Bool)
+          → count v (leaves (pick c Y X)) + count v (leaves (pick c X Y)) ≡ count v (leaves X) + count v (leaves Y)
+      feet X Y true = omega arith
+      feet X Y false = omega arith
 
   -- ── set, clear ──
 
@@ -75,8 +72,7 @@ module _ {D : List ℕ → Dig} {w : World} {T : Tree} (g : Ground D w T) where
       let A′ = nextOf x in
       let x-is = leaf-is x A A′ (hashIn x) (eqb-true A _ (t .passes)) refl refl in
       let y = points A A′ (recordHash D new) in
-      let on : 0 < count (points A A′ (hashIn x)) (ring (recordHash D) (w .items)) =
-      subst (λ (u : Leaf). 0 < count u (ring (recordHash D) (w .items))) x-is (t .in-ring) in
+      let on = subst (InRing D w) x-is (t .in-ring) in
       omega (
         arith,
         one-count (isOf A) (tip y) have v,
@@ -93,12 +89,8 @@ module _ {D : List ℕ → Dig} {w : World} {T : Tree} (g : Ground D w T) where
   swapped-holds A B apart m n v =
       let x = found (isOf A) T in
       let z = found (isOf B) T in
-      let hx = of-item g A (m .0) (m .1) in
-      let hz = of-item g B (n .0) (n .1) in
-      let A-is : A ≡ itemOf x = eqb-true A _ (spotted g (isOf A) hx .passes) in
-      let B-is : B ≡ itemOf z = eqb-true B _ (spotted g (isOf B) hz .passes) in
-      let other : x ≢ z = λ e. apart (A-is ∙ ap itemOf e ∙ sym B-is) in
-      let c = two-count x z (tip z) (tip x) (forkOf (isOf A) (isOf B) T) other (forked (isOf A) (isOf B) T hx hz other) v in
+      let two = two-items g A B apart m n in
+      let c = two-count x z (tip z) (tip x) (forkOf (isOf A) (isOf B) T) (two .0) (two .1) v in
       omega (arith, c, single v x, single v z, g .holds v)
 
   -- ── insert ──
@@ -122,8 +114,7 @@ module _ {D : List ℕ → Dig} {w : World} {T : Tree} (g : Ground D w T) where
           let a = points B A (hashIn x) in
           let b = points A B′ nought in
           let b-is : points A B′ (recordHash D clearedRecord) ≡ b = ap (points A B′) (no-record-hash D) in
-          let on : 0 < count (points B B′ (hashIn x)) (ring (recordHash D) (w .items)) =
-          subst (λ (u : Leaf). 0 < count u (ring (recordHash D) (w .items))) x-is (t .in-ring) in
+          let on = subst (InRing D w) x-is (t .in-ring) in
           let c = insert-ring (recordHash D) A B B′ (hashIn x) clearedRecord (w .items) (g .ascending)
           (gap-holds A B B′ (t .passes)) on v in
           omega (
@@ -168,10 +159,8 @@ module _ {D : List ℕ → Dig} {w : World} {T : Tree} (g : Ground D w T) where
           let tz = spotted g (isOf A) (k .own) in
           let x-is = leaf-is x B A (hashIn x) refl (k .before-next) refl in
           let z-is = leaf-is z A B′ nought (k .own-item) refl (k .own-empty) in
-          let on-x : 0 < count (points B A (hashIn x)) (ring (recordHash D) (w .items)) =
-          subst (λ (u : Leaf). 0 < count u (ring (recordHash D) (w .items))) x-is (tx .in-ring) in
-          let on-z : 0 < count (points A B′ nought) (ring (recordHash D) (w .items)) =
-          subst (λ (u : Leaf). 0 < count u (ring (recordHash D) (w .items))) z-is (tz .in-ring) in
+          let on-x = subst (InRing D w) x-is (tx .in-ring) in
+          let on-z = subst (InRing D w) z-is (tz .in-ring) in
           let f = forkOf (leadsTo A) (isOf A) T in
           let c = two-count x z (tip y) empty f (other-leaf g A k) (fork-of g A k) v in
           let d = remove-ring (recordHash D) A B B′ (hashIn x) nought (w .items) (g .ascending) (k .apart) on-x on-z v in

@@ -6,6 +6,7 @@ use Prim.Native.Nat.{ℕ, _+_, _<_}
 use native.Mathlib.Nat.{mod-lt}
 use native.Mathlib.Omega.{arith}
 use lib.ListN.{length}
+use Rattle.seqs.specs.Choose.{_and_}
 use Rattle.seqs.specs.Bytes.{Bytes, be32}
 use Rattle.sha256.specs.Hash.{sha256}
 use Rattle.sha256.proofs.Digests.{sha256-length}
@@ -109,7 +110,7 @@ module _ (D : List ℕ → Dig) (D32 : (l : List ℕ) → length (D l) ≡ 32) (
 -- ── SHA-256 ──
 
 be32-bytes : (n : ℕ) → Bytes (be32 n)
-be32-bytes n = (mod-lt _ (omega arith), (mod-lt _ (omega arith), (mod-lt _ (omega arith), (mod-lt _ (omega arith), tt))))
+be32-bytes n = mod-lt _ (omega arith) and mod-lt _ (omega arith) and mod-lt _ (omega arith) and mod-lt _ (omega arith) and tt
 
 words-bytes : (a b c d e f g h : ℕ)
     → Bytes (be32 a ++ (be32 b ++ (be32 c ++ (be32 d ++ (be32 e ++ (be32 f ++ (be32 g ++ be32 h)))))))

@@ -1,4 +1,4 @@
--- Swap, insert and remove, honestly: U2 up a fork of two leaves, the EI that follows from it, and adopt.
+-- Swap and insert, honestly: U2 up a fork of two leaves, the EI that follows from it (turned round to insert), and adopt.
 use mathlib.Core.Path.{_≡_, refl, sym, ap, ap₂, subst, _∙_}
 use mathlib.Core.Bool.{Bool, true, false}
 use mathlib.Core.List.{List, [], _∷_, _++_, append-assoc}
@@ -13,7 +13,7 @@ use Rattle.paper.specs.Requests as Q
 use Rattle.paper.specs.Refusals.{clearedRecord, noneFits}
 use Rattle.paper.specs.Answers as Does
 use Rattle.paper.specs.Answers.{rooted}
-use Rattle.rings.specs.Trees.{Leaf, points, Tree, tip, branch, hashOf}
+use Rattle.rings.specs.Trees.{points, Tree, tip, branch, hashOf}
 use Rattle.rings.specs.Lists.{Item, item, Unlisted, insert}
 use Rattle.rings.specs.Changes.{insertion, removal}
 use Rattle.rings.proofs.Counting.{count-nil}
@@ -48,30 +48,12 @@ module _ {D : List ℕ → Dig} {w : World} {T : Tree} (g : Ground D w T) where
       → rise D (f .above) (H D (rise D (f .left) (of (leftOne f a b))) (rise D (f .right) (of (rightOne f a b))))
       ≡ hashOf D (plug-two f (leftOne f X Y) (rightOne f X Y))
   feet of f a b X Y h k =
-      ap₂ (λ (u v : Dig). rise D (f .above) (H D (rise D (f .left) u) (rise D (f .right) v)))
-      (by-left (f .crossed)) (by-right (f .crossed))
-      ∙ rise-two D f _ _
+      let e = by-side (f .crossed) in
+      ap₂ (λ (u v : Dig). rise D (f .above) (H D (rise D (f .left) u) (rise D (f .right) v))) (e .0) (e .1) ∙ rise-two D f _ _
     where
-      by-left : (c : Bool) → of (pick c b a) ≡ hashOf D (pick c Y X)
-      by-left true = k
-      by-left false = h
-
-      by-right : (c : Bool) → of (pick c a b) ≡ hashOf D (pick c X Y)
-      by-right true = h
-      by-right false = k
-
-  -- two leaves at the feet
-  pub leaves-at : (f : Fork) (x y : Leaf) → Forks f x y T
-      → plug-two f (leftOne f (tip x) (tip y)) (rightOne f (tip x) (tip y)) ≡ T
-  leaves-at f x y e = ap₂ (λ (X Y : Tree). plug-two f X Y) (by-side (f .crossed)) (by-other (f .crossed)) ∙ e
-    where
-      by-side : (c : Bool) → pick c (tip y) (tip x) ≡ tip (pick c y x)
-      by-side true = refl
-      by-side false = refl
-
-      by-other : (c : Bool) → pick c (tip x) (tip y) ≡ tip (pick c x y)
-      by-other true = refl
-      by-other false = refl
+      by-side : (c : Bool) → (of (pick c b a) ≡ hashOf D (pick c Y X)) × (of (pick c a b) ≡ hashOf D (pick c X Y))
+      by-side true = (k, h)
+      by-side false = (h, k)
 
   -- ── swap ──
 
@@ -87,18 +69,24 @@ module _ {D : List ℕ → Dig} {w : World} {T : Tree} (g : Ground D w T) where
   fits-by-side l r v true e = note-fits D (s .secret) _ []
   fits-by-side l r v false e = note-fits D (s .secret) _ []
 
+  -- two items have two leaves, under one fork
+  pub two-items : (A B : ℕ) → A ≢ B → IsListed A (w .items) → IsListed B (w .items)
+      → (found (isOf A) T ≢ found (isOf B) T) × Forks (forkOf (isOf A) (isOf B) T) (found (isOf A) T) (found (isOf B) T) T
+  two-items A B apart m n =
+      let hx = of-item g A (m .0) (m .1) in
+      let hz = of-item g B (n .0) (n .1) in
+      let A-is = eqb-true A _ (spotted g (isOf A) hx .passes) in
+      let B-is = eqb-true B _ (spotted g (isOf B) hz .passes) in
+      let other : found (isOf A) T ≢ found (isOf B) T = λ e. apart (A-is ∙ ap itemOf e ∙ sym B-is) in
+      (other, forked (isOf A) (isOf B) T hx hz other)
+
   pub swap-brings : (A B : ℕ) → A ≢ B → IsListed A (w .items) → IsListed B (w .items)
       → Brings D w (swapLines D s A B T) (rooted s (hashOf D (treeSwapped D A B T))) (w .items) (w .changed)
   swap-brings A B apart m n =
       let x = found (isOf A) T in
       let z = found (isOf B) T in
-      let hx = of-item g A (m .0) (m .1) in
-      let hz = of-item g B (n .0) (n .1) in
-      let A-is : A ≡ itemOf x = eqb-true A _ (spotted g (isOf A) hx .passes) in
-      let B-is : B ≡ itemOf z = eqb-true B _ (spotted g (isOf B) hz .passes) in
-      let other : x ≢ z = λ e. apart (A-is ∙ ap itemOf e ∙ sym B-is) in
+      let two = two-items A B apart m n in
       let f = forkOf (isOf A) (isOf B) T in
-      let fork = forked (isOf A) (isOf B) T hx hz other in
       let e : Edit = record { was = hashOf D (tip x); becomes = hashOf D (tip z) } in
       let he : IsEdit e = record { old = tree-digest DD (tip x); new = tree-digest DD (tip z) } in
       let a = leftOne f e (turned e) in
@@ -107,10 +95,10 @@ module _ {D : List ℕ → Dig} {w : World} {T : Tree} (g : Ground D w T) where
       let y = risenTwo D f a b in
       let hy = risen-two-is DD f a b (h .0) (h .1) in
       let was-root : y .was ≡ s .root =
-      feet (λ u. u .was) f e (turned e) (tip x) (tip z) refl refl ∙ ap (hashOf D) (leaves-at f x z fork) ∙ g .root in
+      feet (λ u. u .was) f e (turned e) (tip x) (tip z) refl refl ∙ ap (hashOf D) (two .1) ∙ g .root in
       let becomes-root : y .becomes ≡ hashOf D (treeSwapped D A B T) =
       feet (λ u. u .becomes) f e (turned e) (tip z) (tip x) refl refl
-      ∙ ap (hashOf D) (sym (regrown-two x (tip z) z (tip x) other f T fork (once g x) (once g z))) in
+      ∙ ap (hashOf D) (sym (regrown-two x (tip z) z (tip x) (two .0) f T (two .1) (once g x) (once g z))) in
       let t = sayU2 a b y in
       let q = Q.swap (a .was) (b .was) (y .was) (y .becomes) (note D s t) in
       let u = two-places (g .ready) (w .formed) (w .book) f a b (h .0) (h .1) in

@@ -7,7 +7,7 @@ use mathlib.Core.Logic.{_≢_}
 use Prim.Native.Nat.{ℕ, _+_, _≤_, _<_}
 use native.Mathlib.Decide.{decLt}
 use native.Mathlib.Omega.{arith}
-use Rattle.seqs.specs.Choose.{pick, either}
+use Rattle.seqs.specs.Choose.{pick, either, either-yes}
 use Rattle.paper.specs.Strings.{Dig, H}
 use Rattle.rings.specs.Trees.{Leaf, Leaf-discrete, Tree, empty, tip, branch, leaves, hashOf, count}
 use Rattle.rings.proofs.Counting.{count-nil, count-append, count-single, count-head}
@@ -51,18 +51,11 @@ module _ (p : Leaf → Bool) where
   has-it x (tip y) e h = let q = count-single x y h in ap p (sym q) ∙ e
   has-it x (branch l r) e h = by-side (decLt 0 (count x (leaves l))) (has-it x l e) (has-it x r e)
     where
-      in-left : (a b : Bool) → a ≡ true → either a b ≡ true
-      in-left a b k = rw k refl
-
-      in-right : (a b : Bool) → b ≡ true → either a b ≡ true
-      in-right true b k = refl
-      in-right false b k = k
-
       by-side : Dec (0 < count x (leaves l)) → (0 < count x (leaves l) → has p l ≡ true)
           → (0 < count x (leaves r) → has p r ≡ true)
           → either (has p l) (has p r) ≡ true
-      by-side (yes k) f g = in-left (has p l) (has p r) (f k)
-      by-side (no n) f g = in-right (has p l) (has p r) (g (omega (arith, count-append x (leaves l) (leaves r))))
+      by-side (yes k) f g = rw (f k) refl
+      by-side (no n) f g = rw (g (omega (arith, count-append x (leaves l) (leaves r))), either-yes) refl
 
   -- the leaf found passes and occurs, and the tree is that leaf under its way
   pub record Located (T : Tree) : Type 0 where
@@ -95,7 +88,7 @@ module _ (p : Leaf → Bool) where
 -- ── two leaves under their fork ──
 
 abbrev pub Forks : Fork → (x y : Leaf) → Tree → Type 0
-Forks f x y T = plug-two f (tip (leftOne f x y)) (tip (rightOne f x y)) ≡ T
+Forks f x y T = plug-two f (leftOne f (tip x) (tip y)) (rightOne f (tip x) (tip y)) ≡ T
 
 module _ (p q : Leaf → Bool) where
   pub forked : (T : Tree) → has p T ≡ true → has q T ≡ true → found p T ≢ found q T
@@ -237,7 +230,7 @@ module _ (x : Leaf) (X : Tree) (y : Leaf) (Y : Tree) (apart : x ≢ y) where
       here-y : 0 < count y (y ∷ [])
       here-y = count-head y y [] refl
 
-      by-side : (c : Bool) → plug-two f (tip (pick c y x)) (tip (pick c x y)) ≡ T
+      by-side : (c : Bool) → plug-two f (pick c (tip y) (tip x)) (pick c (tip x) (tip y)) ≡ T
           → regrown (replacingTwo x X y Y) T ≡ plug-two f (pick c Y X) (pick c X Y)
       by-side true q =
           at-feet y x q (omega (arith, here-x)) (omega (arith, here-y))

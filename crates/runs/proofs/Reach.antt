@@ -16,7 +16,7 @@ use Rattle.runs.specs.Run.{Issue, isIssued, World}
 use Rattle.runs.specs.Ways.{Way, sidesOf, siblingsOf, rise, cut, Fork, Edit, risen, parents, risenTwo}
 use Rattle.runs.specs.Honest.{sayU1, sayU2, note, pathUp, joinUp, further, onePlace, pairUp, raiseUp, twoPlaces}
 use Rattle.runs.proofs.Parts.{IsDigest}
-use Rattle.runs.proofs.Climbs.{siblings-length, sides-fit, fold-rises, rise-append, whole, AllShort, cut-whole, lowest-short, higher-short, IsEdit, siblings-digests, risen-is, parents-are}
+use Rattle.runs.proofs.Climbs.{siblings-length, sides-fit, fold-rises, rise-append, whole, AllShort, cut-whole, cut-short, IsEdit, siblings-digests, risen-is, parents-are}
 use Rattle.runs.proofs.Fed.{at, note-fits, Got, says-also, then, say}
 
 -- an open module, for a digest of 32 bytes
@@ -117,9 +117,10 @@ module _ {D : List ℕ → Dig} {w : World} (r : Ready D w) where
       → Got D (at w F b) (onePlace D s p x) (sayU1 x (risen D p x))
   one-place F b p x h =
       let c = cut 64 p in
+      let short = cut-short 64 p (omega arith) in
       let y = risen D (c .lowest) x in
-      let g = path-line F b (c .lowest) x (lowest-short p) h in
-      let k = further-up (c .higher) x y (g .formed) (g .book) (higher-short p) h (risen-is DD (c .lowest) x h) (g .got) in
+      let g = path-line F b (c .lowest) x (short .0) h in
+      let k = further-up (c .higher) x y (g .formed) (g .book) (short .1) h (risen-is DD (c .lowest) x h) (g .got) in
       let up = sym (rise-append D (c .lowest) (whole (c .higher)) (x .was))
       ∙ ap (λ (q : Way). rise D q (x .was)) (cut-whole 64 p) in
       let up′ = sym (rise-append D (c .lowest) (whole (c .higher)) (x .becomes))

@@ -35,7 +35,7 @@ use Rattle.runs.proofs.Fed.{Brings, brings-also}
 use Rattle.runs.proofs.Adopts.{turn-last, adopt-last, alone-is, first-line, without-is, place-lines}
 use Rattle.runs.proofs.Asks.{none-hash}
 use Rattle.runs.proofs.Standing.{Ground, leaf-digest, once, spot-by, spotted}
-use Rattle.runs.proofs.Moves.{feet, leaves-at}
+use Rattle.runs.proofs.Moves.{feet}
 
 -- ── a tree of one leaf ──
 
@@ -193,7 +193,7 @@ module _ {D : List ℕ → Dig} {w : World} {T : Tree} (g : Ground D w T) where
       ap₂ (λ (n : ℕ) (v : Dig). digest D (leaf n B′ v)) (k .own-item) (k .own-empty) ∙ leaf-digest D z in
       let root : y .was ≡ s .root =
       feet g (λ u. u .was) f (relinked D s B A B′ ω) (gone D s A B′) (tip x) (tip z) x-was z-was
-      ∙ ap (hashOf D) (leaves-at g f x z (fork-of A k)) ∙ g .root in
+      ∙ ap (hashOf D) (fork-of A k) ∙ g .root in
       let X = tip (points B B′ ω) in
       let shrunk : y .becomes ≡ hashOf D (treeWithout D A T (i ∷ j ∷ l)) =
       feet g (λ u. u .becomes) f (relinked D s B A B′ ω) (gone D s A B′) X empty refl refl

@@ -101,15 +101,16 @@ module _ (D : List ℕ → Dig) (D32 : (l : List ℕ) → length (D l) ≡ 32) w
         zero-not z =
             let p = passes (ap (λ (v : Verdict). told D s kind q v .refusal) e ∙ z) in
             true≢false (ap isPassed (sym (judge-passed late [] cs p) ∙ e))
-    by-verdict by (passed fs) e h c = landing (accepted D D32 by w kind fs c q (given fs e h))
+    by-verdict by (passed fs) e h c = do
+      r ← instead was-accepted (accepted D D32 by w kind fs c q (given fs e h))
+      inr (r .0, (λ z. r .1), r .2)
       where
-        landing : (Fault (digest D) ((answer D s q .forms ++ fs) ++ w .formed) ⊎ Forgery D w q)
-            ⊎ (Core D D32 (landed D by w (told D s kind q (passed fs))) × TrueAnswer D q (w .items) × LegalEffect D w
-            (answer D s q .effect))
-            → Out by w q (told D s kind q (passed fs))
-        landing (inl (inl f)) = inl (inl f)
-        landing (inl (inr f)) = inl (inr (refl, f))
-        landing (inr r) = inr (r .0, (λ z. r .1), r .2)
+        F : List Str
+        F = (answer D s q .forms ++ fs) ++ w .formed
+
+        was-accepted : Fault (digest D) F ⊎ Forgery D w q → Fault (digest D) F ⊎ ((told D s kind q (passed fs) .refusal ≡ 0) × Forgery D w q)
+        was-accepted (inl f) = inl f
+        was-accepted (inr f) = inr (refl, f)
 
   -- ── any line ──
 

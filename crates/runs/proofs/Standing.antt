@@ -1,4 +1,4 @@
--- A world and a tree that stands for it: what is known of the leaf that a test finds. And set and clear, which change one leaf.
+-- A world and a tree that stands for it: what is known of the leaf that a test finds.
 use mathlib.Core.Path.{_≡_, refl, sym, ap, subst, _∙_}
 use mathlib.Core.Bool.{Bool, true}
 use mathlib.Core.List.{List}
@@ -22,6 +22,10 @@ use Rattle.runs.proofs.Reach.{Ready}
 use Rattle.runs.proofs.Sizes.{record-is, AllDecent}
 
 module _ (D : List ℕ → Dig) where
+  -- a leaf of the ring of a world's list
+  abbrev pub InRing : World → Leaf → Type 0
+  InRing w x = 0 < count x (ring (recordHash D) (w .items))
+
   -- the module is open, the tree stands for the list, and what is listed fits lines
   pub record Ground (w : World) (T : Tree) : Type 0 where
     pub ready : Ready D w
@@ -42,7 +46,7 @@ module _ {D : List ℕ → Dig} {w : World} {T : Tree} (g : Ground D w T) where
 
   pub record Spotted (p : Leaf → Bool) : Type 0 where
     pub passes : p (found p T) ≡ true
-    pub in-ring : 0 < count (found p T) (ring (recordHash D) (w .items))
+    pub in-ring : InRing D w (found p T)
     pub held : Record
     pub listed : Listed (itemOf (found p T)) held (w .items)
     pub hash-is : recordHash D held ≡ hashIn (found p T)
@@ -55,14 +59,14 @@ module _ {D : List ℕ → Dig} {w : World} {T : Tree} (g : Ground D w T) where
   once v = omega (arith, g .holds v, ring-once (recordHash D) v (w .items) (g .ascending))
 
   -- where some leaf of the ring passes
-  pub spot-by : (p : Leaf → Bool) (x : Leaf) → p x ≡ true → 0 < count x (ring (recordHash D) (w .items)) → has p T ≡ true
+  pub spot-by : (p : Leaf → Bool) (x : Leaf) → p x ≡ true → InRing D w x → has p T ≡ true
   spot-by p x e m = has-it p x T e (omega (arith, g .holds x))
 
   pub spotted : (p : Leaf → Bool) → has p T ≡ true → Spotted p
   spotted p h =
       let x = found p T in
       let at = located p T h in
-      let m : 0 < count x (ring (recordHash D) (w .items)) = omega (arith, g .holds x, at .occurs) in
+      let m : InRing D w x = omega (arith, g .holds x, at .occurs) in
       let i = leaf-held (recordHash D) x (w .items) m in
       let n = leaf-next (recordHash D) x (w .items) m in
       let k = g .decent (nextOf x) (n .0) (n .1) in

@@ -73,7 +73,8 @@ number-small : (l : List ℕ) → Bytes l → 8 ≤ length l → Small (numberOf
 unfolding numberAt
 number-small l h n =
     subst Small (sym (number-at l 0 n))
-    (eight _ _ _ _ _ _ _ _ (byte-at l 0 h) (byte-at l 1 h) (byte-at l 2 h) (byte-at l 3 h) (byte-at l 4 h) (byte-at l 5 h) (byte-at l 6 h) (byte-at l 7 h))
+    (let at : (i : ℕ) → getD l i 0 < 256 = λ i. byte-at l i h in
+    eight _ _ _ _ _ _ _ _ (at 0) (at 1) (at 2) (at 3) (at 4) (at 5) (at 6) (at 7))
 
 -- ── what a row of the table carries ──
 
