@@ -16,6 +16,7 @@ use Rattle.rings.proofs.Align.{Two, align-two, paths-more}
 use Rattle.rings.proofs.Gaps.{Gap, gap-positive, gap-apart}
 use Rattle.rings.proofs.Items.{AllRecords, record-at, insert-ascending, insert-all, remove-head, remove-ascending, remove-all}
 use Rattle.rings.proofs.Ring.{leaf-item, gap-free}
+use Rattle.rings.proofs.Find.{item-leaf}
 use Rattle.rings.proofs.RingChanges.{remove-ring, insert-ring}
 use Rattle.rings.proofs.Steps.{steps-append, legal-append, reversed-append, reversed-reversed}
 use Rattle.rings.proofs.Records.{hashRecord, hash-empty, Known, known-empty, no-record}
@@ -108,12 +109,9 @@ module _ (D : Str → Dig) where
   -- a ring without leaves is that of the empty list
   pub no-items : (ls : List (Item Record)) → ((x : Leaf) → count x (ringOf ls) ≡ 0) → ls ≡ []
   no-items [] f = refl
-  no-items (item a r ∷ []) f =
-      let x = points a a (hashRecord D r) in
-      absurd (omega (arith, f x, count-cons x x [], one-self x))
-  no-items (item a r ∷ item b s ∷ l) f =
-      let x = points a b (hashRecord D r) in
-      absurd (omega (arith, f x, count-cons x x (chainOf (hashRecord D) b s l a), one-self x))
+  no-items (item a r ∷ l) f =
+      let i = item-leaf (hashRecord D) a r (item a r ∷ l) (List·Memᴰ·head refl) in
+      absurd (omega (arith, f (points a (i .0) (hashRecord D r)), i .1))
 
   -- a ring of one leaf, of hash 0, is that of one empty item
   one-item : {F : List Str} (A : ℕ) (ls : List (Item Record)) → Ascending 0 ls → AllRecords (Known D F) ls

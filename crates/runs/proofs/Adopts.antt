@@ -13,13 +13,13 @@ use Rattle.paper.specs.declared.Registers.{Registers}
 use Rattle.paper.specs.Strings.{Dig, nought, Memo, Str, leaf, inGap}
 use Rattle.paper.specs.Requests as Q
 use Rattle.paper.specs.Requests.{Request}
-use Rattle.paper.specs.Refusals.{noneFits, placeSays, needs}
+use Rattle.paper.specs.Refusals.{noneFits, needs}
 use Rattle.paper.specs.Answers as Does
 use Rattle.paper.specs.Answers.{Change, rooted, issue, answer}
 use Rattle.rings.specs.Changes.{Step, insertion, removal, doSteps, reversed}
 use Rattle.runs.specs.Run.{Issue, meaning, World}
 use Rattle.runs.specs.Endings.{carried}
-use Rattle.runs.specs.Ways.{Way, Fork, leftOne, rightOne, Edit}
+use Rattle.runs.specs.Ways.{Fork, leftOne, rightOne, Edit}
 use Rattle.runs.specs.Honest.{sayU2, sayEI, turned, note, turnRound, takeOver, relinked, gone, onLeftFoot, onRightFoot, without, placed, alone}
 use Rattle.runs.specs.Liveness.{AllIssued}
 use Rattle.runs.proofs.Accepted.{NoneFails}
@@ -105,31 +105,11 @@ module _ {D : List ℕ → Dig} {w : World} (r : Ready D w) where
 
   -- ── 08 place ──
 
-  -- what U2 says is one of the two things that place asks for, in the order tried
-  abbrev inOrder : (B A B′ : ℕ) (ω : Dig) (y : Edit) → Memo
-  inOrder B A B′ ω y = sayU2 (relinked D s B A B′ ω) (gone D s A B′) y
-
-  abbrev otherOrder : (B A B′ : ℕ) (ω : Dig) (y : Edit) → Memo
-  otherOrder B A B′ ω y = sayU2 (gone D s A B′) (relinked D s B A B′ ω) y
-
-  abbrev PlaceFits : Fork → (B A B′ : ℕ) (ω : Dig) → Type 0
-  PlaceFits f B A B′ ω =
-      let y = without D s f B A B′ ω in
-      noneFits D (s .secret) (placeSays D B A B′ ω (y .was) (y .becomes))
-      (note D s (sayU2 (onLeftFoot D s f B A B′ ω) (onRightFoot D s f B A B′ ω) y))
-      ≡ false
-
-  fits-by-side : (l r a : Way) (c : Bool) (B A B′ : ℕ) (ω : Dig)
-      → PlaceFits (record { left = l; right = r; above = a; crossed = c }) B A B′ ω
-  fits-by-side l r a true B A B′ ω =
-      let y = without D s (record { left = l; right = r; above = a; crossed = true }) B A B′ ω in
-      note-fits-second D (s .secret) (inOrder B A B′ ω y) (otherOrder B A B′ ω y)
-  fits-by-side l r a false B A B′ ω =
-      let y = without D s (record { left = l; right = r; above = a; crossed = false }) B A B′ ω in
-      note-fits D (s .secret) (inOrder B A B′ ω y) (otherOrder B A B′ ω y ∷ [])
-
-  place-fits : (f : Fork) (B A B′ : ℕ) (ω : Dig) → PlaceFits f B A B′ ω
-  place-fits f B A B′ ω = fits-by-side (f .left) (f .right) (f .above) (f .crossed) B A B′ ω
+  -- a U2 in either order is one of the two things that place asks for, in the order tried
+  fits-either : (c : Bool) (a b y : Edit)
+      → noneFits D (s .secret) (sayU2 a b y ∷ sayU2 b a y ∷ []) (note D s (sayU2 (pick c b a) (pick c a b) y)) ≡ false
+  fits-either true a b y = note-fits-second D (s .secret) (sayU2 a b y) (sayU2 b a y)
+  fits-either false a b y = note-fits D (s .secret) (sayU2 a b y) (sayU2 b a y ∷ [])
 
   -- edits at the feet of a fork
   pub feet-are : (f : Fork) (a b : Edit) → IsEdit a → IsEdit b → IsEdit (leftOne f a b) × IsEdit (rightOne f a b)
@@ -162,5 +142,5 @@ module _ {D : List ℕ → Dig} {w : World} (r : Ready D w) where
       (heads-line D (at w (g .formed) (g .book)) (Q.place B A B′ ω (y .was) (y .becomes) (note D s t)) [] [] (sayEI y)
       (Does.removes A)
       (sB, sA, sB′, (hω, (hy .old, (hy .new, (note-digest r t, tt)))))
-      (is-open r, (not-zero B pB, (not-zero A pA, (not-zero B′ pB′, (rw gap refl, (place-fits f B A B′ ω, tt))))))
+      (is-open r, (not-zero B pB, (not-zero A pA, (not-zero B′ pB′, (rw gap refl, (fits-either (f .crossed) (relinked D s B A B′ ω) (gone D s A B′) y, tt))))))
       (g .got, tt) refl)

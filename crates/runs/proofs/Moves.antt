@@ -21,7 +21,7 @@ use Rattle.rings.proofs.Gaps.{gap-tells}
 use Rattle.rings.proofs.Find.{spot}
 use Rattle.runs.specs.Run.{Items, World}
 use Rattle.runs.specs.Wishes.{IsListed}
-use Rattle.runs.specs.Ways.{itemOf, nextOf, hashIn, isOf, gapHolds, Way, has, found, wayTo, rise, Fork, forkOf, halves, leftOne, rightOne, Edit, risenTwo}
+use Rattle.runs.specs.Ways.{itemOf, nextOf, hashIn, isOf, gapHolds, has, found, wayTo, rise, Fork, forkOf, halves, leftOne, rightOne, Edit, risenTwo}
 use Rattle.runs.specs.Outcomes.{treeWith, treeSwapped}
 use Rattle.runs.specs.Honest.{sayU2, sayEI, turned, note, twoPlaces, turnRound, takeOver, without, placed, alone, insertLines, swapLines}
 use Rattle.runs.proofs.Widths.{Small}
@@ -58,16 +58,12 @@ module _ {D : List ℕ → Dig} {w : World} {T : Tree} (g : Ground D w T) where
   -- ── swap ──
 
   -- what U2 says is what swap asks for
-  abbrev SwapFits : Fork → Edit → Type 0
-  SwapFits f e =
-      let a = leftOne f e (turned e) in
-      let b = rightOne f e (turned e) in
-      let y = risenTwo D f a b in
-      noneFits D (s .secret) (u2 (a .was) (b .was) (y .was) (b .was) (a .was) (y .becomes) ∷ []) (note D s (sayU2 a b y)) ≡ false
-
-  fits-by-side : (l r v : Way) (c : Bool) (e : Edit) → SwapFits (record { left = l; right = r; above = v; crossed = c }) e
-  fits-by-side l r v true e = note-fits D (s .secret) _ []
-  fits-by-side l r v false e = note-fits D (s .secret) _ []
+  swap-fits : (c : Bool) (e y : Edit)
+      → (let a = pick c (turned e) e in
+      let b = pick c e (turned e) in
+      noneFits D (s .secret) (u2 (a .was) (b .was) (y .was) (b .was) (a .was) (y .becomes) ∷ []) (note D s (sayU2 a b y)) ≡ false)
+  swap-fits true e y = note-fits D (s .secret) _ []
+  swap-fits false e y = note-fits D (s .secret) _ []
 
   -- two items have two leaves, under one fork
   pub two-items : (A B : ℕ) → A ≢ B → IsListed A (w .items) → IsListed B (w .items)
@@ -105,7 +101,7 @@ module _ {D : List ℕ → Dig} {w : World} {T : Tree} (g : Ground D w T) where
       let k = heads-behind D (u .leads)
       (heads-line D (at w (u .formed) (u .book)) q [] [] (sayEI y) Does.nothing
       (h .0 .old, (h .1 .old, (hy .old, (hy .new, (note-digest (g .ready) t, tt)))))
-      (is-open (g .ready), (fits-by-side (f .left) (f .right) (f .above) (f .crossed) e, tt)) (u .got, tt) refl) in
+      (is-open (g .ready), (swap-fits (f .crossed) e y, tt)) (u .got, tt) refl) in
       let r = adopt-last (g .ready) (twoPlaces D s f a b ++ (q ∷ [])) y [] hy was-root k in
       brings-also D (append-assoc (twoPlaces D s f a b) (q ∷ []) (takeOver D s y ∷ [])) (ap (rooted s) becomes-root) refl r
 
