@@ -141,6 +141,7 @@ module _ {D : List ℕ → Dig} {w : World} (r : Ready D w) where
       heads-behind D (g .leads)
       (heads-line D (at w (g .formed) (g .book)) (Q.place B A B′ ω (y .was) (y .becomes) (note D s t)) [] [] (sayEI y)
       (Does.removes A)
-      (sB, sA, sB′, (hω, (hy .old, (hy .new, (note-digest r t, tt)))))
-      (is-open r, (not-zero B pB, (not-zero A pA, (not-zero B′ pB′, (rw gap refl, (fits-either (f .crossed) (relinked D s B A B′ ω) (gone D s A B′) y, tt))))))
+      (sB, sA, sB′, (hω and hy .old and hy .new and note-digest r t and tt))
+      (is-open r and not-zero B pB and not-zero A pA and not-zero B′ pB′ and rw gap refl
+      and fits-either (f .crossed) (relinked D s B A B′ ω) (gone D s A B′) y and tt)
       (g .got, tt) refl)

@@ -144,7 +144,7 @@ module _ {D : List ℕ → Dig} {w : World} {T : Tree} (g : Ground D w T) where
         let a = Q.askNone q in
         let empty-root : nought ≡ s .root = sym (none-hash D T (λ x. g .holds x ∙ rw e (count-nil x))) ∙ g .root in
         let n : NoneFails (needs D s a) =
-        (is-open (g .ready), (not-zero q positive, (at-root nought (s .root) empty-root, tt))) in
+        (is-open (g .ready) and not-zero q positive and at-root nought (s .root) empty-root and tt) in
         record {
           brings = brings D (leads-one D w a small n tt);
           reply = nothing-listed e (ap (λ (u : Told). u .says) (told-is D w a small n));

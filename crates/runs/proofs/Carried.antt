@@ -75,8 +75,8 @@ module _ (D : List ℕ → Dig) (w : World) where
           by-book (inr a) = inr a
 
       -- one that a check asks to say t
-      pub means : (q : Request) (t : Memo) (m : Dig) → List·Memᴰ m (carried q) → memo t key ∈ G → noneFits D key (t ∷ []) m ≡ false
-          → Or q (Means (digest D) G t (standsFor m (w .book)))
+      pub means : (q : Request) (t : Memo) (m : Dig) → List·Memᴰ m (carried q) → memo t key ∈ G
+          → noneFits D key (t ∷ []) m ≡ false → Or q (Means (digest D) G t (standsFor m (w .book)))
       means q t m c i h = by-test (same (digest D (memo t key)) m) refl h
         where
           by-test : (b : Bool) → same (digest D (memo t key)) m ≡ b → pick b false true ≡ false

@@ -1,4 +1,5 @@
--- Every string that a line forms is well formed: its numbers are below 2 ^ 64 and its digests have 32 bytes.
+-- Every string that a line forms is well formed: its numbers are below 2 ^ 64 and its digests have 32 bytes. A module that is
+-- not open forms none.
 use mathlib.Core.Path.{_≡_, refl, sym, ap, subst}
 use mathlib.Core.Bool.{Bool, true, false}
 use mathlib.Core.List.{List, [], _∷_, _++_, List·Memᴰ, List·Memᴰ·head, List·Memᴰ·tail}
@@ -87,11 +88,11 @@ module _ (D : List ℕ → Dig) (D32 : (l : List ℕ) → length (D l) ≡ 32) w
 
   well-record : (r : Record) → SmallRecord r → Well (recordForms r)
   unfolding recordForms
-  well-record r h = well-pick (blank r) [] (entry r ∷ []) tt ((h .0, (h .1, (h .2, (h .3, tt)))), tt)
+  well-record r h = well-pick (blank r) [] (entry r ∷ []) tt ((h .0 and h .1 and h .2 and h .3 and tt), tt)
 
   well-leaf : (A A′ : ℕ) (r : Record) → Small A → Small A′ → SmallRecord r → Well (leafForms D A A′ r)
   well-leaf A A′ r hA hA′ h =
-      well-append (recordForms r) (leafOf D A A′ r ∷ []) (well-record r h) ((hA, (hA′, (record-32 D D32 r, tt))), tt)
+      well-append (recordForms r) (leafOf D A A′ r ∷ []) (well-record r h) ((hA and hA′ and record-32 D D32 r and tt), tt)
 
   well-change : (A A′ : ℕ) (old new : Record) → Small A → Small A′ → SmallRecord old → SmallRecord new
       → Well (changeForms D A A′ old new)
@@ -267,7 +268,8 @@ module _ (D : List ℕ → Dig) (D32 : (l : List ℕ) → length (D l) ≡ 32) w
 
     -- ── a line that is read ──
 
-    pub closed-forms : (kind : ℕ) (q : Request) → Small (s .counter .0) → Wide q → s .opened ≡ false → answered s kind q .formed ≡ []
+    pub closed-forms : (kind : ℕ) (q : Request) → Small (s .counter .0) → Wide q → s .opened ≡ false
+        → answered s kind q .formed ≡ []
     closed-forms kind q c w o = by-forms (forms q c w)
       where
         by-forms : Forms s q → answered s kind q .formed ≡ []

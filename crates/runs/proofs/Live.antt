@@ -46,7 +46,8 @@ module _ (D : List ℕ → Dig) (D32 : (l : List ℕ) → length (D l) ≡ 32) (
         let l = itemsAfter s (w .items) x in
         let s′ = registersAfter s (hashOf D U) x in
         Brings D w (honestLines D s T (w .items) x) s′ l n → hashOf D U ≡ s′ .root → s′ .counter .0 ≡ n → Ascending 0 l
-        → Permuted (leaves U) (ring (recordHash D) l) → Answered D x (w .items) (lastReply D w (turnsFor D w T x)) → Granted D w T x)
+        → Permuted (leaves U) (ring (recordHash D) l) → Answered D x (w .items) (lastReply D w (turnsFor D w T x))
+        → Granted D w T x)
     grants x n b root counter up holds answered =
         let U = treeAfter D s T (w .items) x in
         record {

@@ -5,7 +5,7 @@ use mathlib.Core.List.{List, [], _∷_, _++_, append-assoc}
 use mathlib.Core.Logic.{_≢_}
 use Prim.Native.Nat.{ℕ, _<_}
 use borrow.Author.Tests.{eqb-true}
-use Rattle.seqs.specs.Choose.{pick}
+use Rattle.seqs.specs.Choose.{pick, _and_}
 use Rattle.paper.specs.declared.Record.{Record}
 use Rattle.paper.specs.declared.Registers.{Registers}
 use Rattle.paper.specs.Strings.{Dig, nought, u2, leaf, digest, recordHash, H}
@@ -100,7 +100,7 @@ module _ {D : List ℕ → Dig} {w : World} {T : Tree} (g : Ground D w T) where
       let u = two-places (g .ready) (w .formed) (w .book) f a b (h .0) (h .1) in
       let k = heads-behind D (u .leads)
       (heads-line D (at w (u .formed) (u .book)) q [] [] (sayEI y) Does.nothing
-      (h .0 .old, (h .1 .old, (hy .old, (hy .new, (note-digest (g .ready) t, tt)))))
+      (h .0 .old and h .1 .old and hy .old and hy .new and note-digest (g .ready) t and tt)
       (is-open (g .ready), (swap-fits (f .crossed) e y, tt)) (u .got, tt) refl) in
       let r = adopt-last (g .ready) (twoPlaces D s f a b ++ (q ∷ [])) y [] hy was-root k in
       brings-also D (append-assoc (twoPlaces D s f a b) (q ∷ []) (takeOver D s y ∷ [])) (ap (rooted s) becomes-root) refl r

@@ -30,7 +30,7 @@ use Rattle.runs.specs.Honest.{turned, turnRound, relinked, gone, without
 use Rattle.runs.proofs.Parts.{IsDigest}
 use Rattle.runs.proofs.Climbs.{record-digest, tree-digest}
 use Rattle.runs.proofs.Places.{Forks, forked, regrown-two}
-use Rattle.runs.proofs.Rings.{one-of-item, one-to-item}
+use Rattle.runs.proofs.RingLeaves.{one-of-item, one-to-item}
 use Rattle.runs.proofs.Fed.{Brings, brings-also}
 use Rattle.runs.proofs.Adopts.{turn-last, adopt-last, alone-is, first-line, without-is, place-lines}
 use Rattle.runs.proofs.Asks.{none-hash}

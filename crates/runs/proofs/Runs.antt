@@ -1,4 +1,5 @@
--- One line at a time: what it comes to, and the run theorem's first half.
+-- Any line keeps the invariant or ends the run. Hence, after any lines, a run has ended or is safe: `safety` (demand 3, first
+-- half).
 use mathlib.Core.Path.{_≡_, refl, sym, ap, subst, _∙_}
 use mathlib.Core.Bool.{Bool, true, false, true≢false}
 use mathlib.Core.List.{List, [], _∷_, _++_, List·Memᴰ, List·Memᴰ·head, List·Memᴰ·tail, Memᴰ·append-left, Memᴰ·append-right}
@@ -108,7 +109,8 @@ module _ (D : List ℕ → Dig) (D32 : (l : List ℕ) → length (D l) ≡ 32) w
         F : List Str
         F = (answer D s q .forms ++ fs) ++ w .formed
 
-        was-accepted : Fault (digest D) F ⊎ Forgery D w q → Fault (digest D) F ⊎ ((told D s kind q (passed fs) .refusal ≡ 0) × Forgery D w q)
+        was-accepted : Fault (digest D) F ⊎ Forgery D w q
+            → Fault (digest D) F ⊎ ((told D s kind q (passed fs) .refusal ≡ 0) × Forgery D w q)
         was-accepted (inl f) = inl f
         was-accepted (inr f) = inr (refl, f)
 

@@ -1,5 +1,5 @@
--- After each line of any run: an ending, or the root stands for the replayed list and every answer was true (demand 3, first
--- half).
+-- The invariant: the root stands for the list, and every memorandum in the book means what it says. Kind by kind, an accepted
+-- line keeps it, its answer is true and what it does is legal, or a fault or a forgery can be shown.
 use mathlib.Core.Path.{_≡_, refl, sym, ap, subst, _∙_}
 use mathlib.Core.Bool.{Bool, true, false, true≢false}
 use mathlib.Core.List.{List, [], _∷_, _++_, List·Memᴰ, List·Memᴰ·tail, Memᴰ·append-left, Memᴰ·append-right}

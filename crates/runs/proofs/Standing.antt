@@ -17,7 +17,7 @@ use Rattle.runs.specs.Ways.{itemOf, nextOf, hashIn, isOf, has, found, wa
 use Rattle.runs.specs.Honest.{recordOf}
 use Rattle.runs.proofs.Widths.{Small}
 use Rattle.runs.proofs.Places.{rise-plug, has-it, located}
-use Rattle.runs.proofs.Rings.{ring-once, leaf-held, leaf-next}
+use Rattle.runs.proofs.RingLeaves.{ring-once, leaf-held, leaf-next}
 use Rattle.runs.proofs.Reach.{Ready}
 use Rattle.runs.proofs.Sizes.{record-is, AllDecent}
 
