@@ -2,7 +2,7 @@
 -- empty parts, and another part may be put in its place; or a fault can be shown. The same for two places under one node.
 -- This is why a memorandum, which knows digests only, says something of every tree that has them.
 use mathlib.Core.Path.{_≡_, refl, sym, ap, _∙_}
-use mathlib.Core.List.{List, [], _∷_, _++_}
+use mathlib.Core.List.{List, [], _∷_, _++_, append-nil}
 use mathlib.Core.Logic.{_⊎_, inl, inr}
 use Prim.Native.Nat.{ℕ, _+_}
 use native.Mathlib.Omega.{arith}
@@ -19,32 +19,19 @@ pub data Sibling : Type 0 where
 module _ (D : Str → Dig) where
   -- ── one node ──
 
-  -- T is, up to empty parts, a node over halves l and r of hashes a and b
-  pub record Split (F : List Str) (a b : Dig) (T : Tree) : Type 0 where
+  -- the leaves L are those of halves l and r of hashes a and b
+  pub record Split (F : List Str) (a b : Dig) (L : List Leaf) : Type 0 where
     pub l : Tree
     pub r : Tree
     pub hash-l : hash D l ≡ a
     pub hash-r : hash D r ≡ b
     pub in-l : TreeIn D F l
     pub in-r : TreeIn D F r
-    pub cut : (x : Leaf) → count x (leaves T) ≡ count x (leaves l) + count x (leaves r)
+    pub cut : (x : Leaf) → count x L ≡ count x (leaves l) + count x (leaves r)
 
-  -- a node whose other half is empty splits as its full half does
-  from-half : {F : List Str} {a b : Dig} {S T : Tree} → ((x : Leaf) → count x (leaves T) ≡ count x (leaves S)) → Split F a b S
-      → Split F a b T
-  from-half f s =
-      record {
-        l = s .l;
-        r = s .r;
-        hash-l = s .hash-l;
-        hash-r = s .hash-r;
-        in-l = s .in-l;
-        in-r = s .in-r;
-        cut = λ x. f x ∙ s .cut x;
-      }
-
+  -- a tree is, up to empty parts, such a node; where one half is empty, the other splits
   split-node : {F : List Str} (T : Tree) (a b : Dig) → node a b ∈ F → D (node a b) ≡ hash D T → TreeIn D F T
-      → Fault D F ⊎ Split F a b T
+      → Fault D F ⊎ Split F a b (leaves T)
   split-node empty a b m e i = inl (vanishes (node a b) m e)
   split-node (tip (points a′ b′ w′)) a b m e i = do
     p ← same-string D m i e
@@ -54,16 +41,16 @@ module _ (D : Str → Dig) where
       go (Dig-discrete (hash D l) nought) (Dig-discrete (hash D r) nought)
       (λ h. split-node l a b m h (i .0)) (λ h. split-node r a b m h (i .1))
     where
-      go : Dec (hash D l ≡ nought) → Dec (hash D r ≡ nought) → (D (node a b) ≡ hash D l → Fault D F ⊎ Split F a b l)
-          → (D (node a b) ≡ hash D r → Fault D F ⊎ Split F a b r) → Fault D F ⊎ Split F a b (branch l r)
+      go : Dec (hash D l ≡ nought) → Dec (hash D r ≡ nought) → (D (node a b) ≡ hash D l → Fault D F ⊎ Split F a b (leaves l))
+          → (D (node a b) ≡ hash D r → Fault D F ⊎ Split F a b (leaves r)) → Fault D F ⊎ Split F a b (leaves l ++ leaves r)
       go (yes p) d f g = do
         u ← no-leaf D l p (i .0)
         s ← g (e ∙ above-left-0 D (hash D l) (hash D r) p)
-        inr (from-half (λ x. rw u refl) s)
+        inr (rw u s)
       go (no n) (yes q) f g = do
         u ← no-leaf D r q (i .1)
         s ← f (e ∙ above-right-0 D (hash D l) (hash D r) q)
-        inr (from-half (λ x. rw (count-append, u, count-nil) (omega arith)) s)
+        inr (rw (u, append-nil) s)
       go (no n) (no k) f g = do
         p ← same-string D m (i .2 n k) (e ∙ above-node D (hash D l) (hash D r) n k)
         inr (record {
@@ -77,10 +64,10 @@ module _ (D : Str → Dig) where
         })
 
   pub split : {F : List Str} (T : Tree) (a b : Dig) → NodeIn D F a b → above D a b ≡ hash D T → TreeIn D F T
-      → Fault D F ⊎ Split F a b T
+      → Fault D F ⊎ Split F a b (leaves T)
   split {F} T a b m e i = go (Dig-discrete b nought) (Dig-discrete a nought)
     where
-      go : Dec (b ≡ nought) → Dec (a ≡ nought) → Fault D F ⊎ Split F a b T
+      go : Dec (b ≡ nought) → Dec (a ≡ nought) → Fault D F ⊎ Split F a b (leaves T)
       go (yes q) d =
           inr (record {
             l = T;
