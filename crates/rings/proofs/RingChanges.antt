@@ -16,13 +16,20 @@ use Rattle.rings.proofs.Counting.{count-nil, count-cons, count-cases, c
 use Rattle.rings.proofs.Gaps.{Gap, between, beyond, before}
 use Rattle.rings.proofs.Ring.{bounds, unlisted-in, rewrap}
 
+-- The leaves L with item q are the leaves M without it, but for (A, q, w) and (q, B, v) in the place of (A, B, w); counted at x.
+abbrev pub Bypass : (q A B : ℕ) (w v : Dig) (x : Leaf) (L M : List Leaf) → Type 0
+Bypass q A B w v x L M = count x L + one x (points A B w) ≡ count x M + one x (points A q w) + one x (points q B v)
+
+-- The leaves L are the leaves M, but for (A, B, w′) in the place of (A, B, w).
+abbrev pub Rehash : (A B : ℕ) (w w′ : Dig) (x : Leaf) (L M : List Leaf) → Type 0
+Rehash A B w w′ x L M = count x L + one x (points A B w) ≡ count x M + one x (points A B w′)
+
 module _ {R : Type 0} (h : R → Dig) where
   -- ── removing an item: its leaf goes, and the leaf before it leads on ──
 
   remove-chain : (q A B : ℕ) (w v : Dig) (a : ℕ) (r : R) (l : List (Item R)) (z : ℕ) → z ≤ a → Ascending a l → a < q
       → 0 < count (points A q w) (chainOf h a r l z) → 0 < count (points q B v) (chainOf h a r l z) → (x : Leaf)
-      → count x (chainOf h a r l z) + one x (points A B w)
-      ≡ count x (chainOf h a r (remove q l) z) + one x (points A q w) + one x (points q B v)
+      → Bypass q A B w v x (chainOf h a r l z) (chainOf h a r (remove q l) z)
   unfolding remove
   remove-chain q A B w v a r [] z hz g hq m m′ x =
       let e = count-single _ _ m in
@@ -51,10 +58,8 @@ module _ {R : Type 0} (h : R → Dig) where
       go : (t : Bool) → eqb q b ≡ t → (points A q w ≡ points a b (h r)) ⊎ (0 < count (points A q w) (chainOf h b s l z))
           → (points q B v ≡ points a b (h r)) ⊎ (0 < count (points q B v) (chainOf h b s l z))
           → (b < q → 0 < count (points A q w) (chainOf h b s l z) → 0 < count (points q B v) (chainOf h b s l z)
-          → count x (chainOf h b s l z) + one x (points A B w)
-          ≡ count x (chainOf h b s (remove q l) z) + one x (points A q w) + one x (points q B v))
-          → count x (points a b (h r) ∷ chainOf h b s l z) + one x (points A B w)
-          ≡ count x (chainOf h a r (pick t l (item b s ∷ remove q l)) z) + one x (points A q w) + one x (points q B v)
+          → Bypass q A B w v x (chainOf h b s l z) (chainOf h b s (remove q l) z))
+          → Bypass q A B w v x (points a b (h r) ∷ chainOf h b s l z) (chainOf h a r (pick t l (item b s ∷ remove q l)) z)
       go d i t (inl e) f = let p : q ≡ a = cc in absurd (omega arith)
       go true i (inl e) (inr t′) f =
           let p : q ≡ b = eqb-true q b i in
@@ -70,22 +75,19 @@ module _ {R : Type 0} (h : R → Dig) where
           (omega (arith, f (omega (arith, eqb-false q b i, (bounds h q B v b s l z (g .1) t′) .0)) t t′))
 
   pub remove-ring : (q A B : ℕ) (w v : Dig) (ls : List (Item R)) → Ascending 0 ls → A ≢ q → 0 < count (points A q w) (ring h ls)
-      → 0 < count (points q B v) (ring h ls) → (x : Leaf)
-      → count x (ring h ls) + one x (points A B w) ≡ count x (ring h (remove q ls)) + one x (points A q w) + one x (points q B v)
+      → 0 < count (points q B v) (ring h ls) → (x : Leaf) → Bypass q A B w v x (ring h ls) (ring h (remove q ls))
   unfolding remove
   remove-ring q A B w v [] g n m m′ x = absurd (omega (arith, count-nil (points A q w)))
   remove-ring q A B w v (item a r ∷ l) g n m m′ x = go (eqb q a) refl
     where
       first : (l : List (Item R)) → Ascending a l → q ≡ a → 0 < count (points A q w) (chainOf h a r l a)
-          → 0 < count (points q B v) (chainOf h a r l a)
-          → count x (chainOf h a r l a) + one x (points A B w) ≡ count x (ring h l) + one x (points A q w) + one x (points q B v)
+          → 0 < count (points q B v) (chainOf h a r l a) → Bypass q A B w v x (chainOf h a r l a) (ring h l)
       first [] k p t t′ = let e = count-single _ _ t in absurd (n (cc))
       first (item b s ∷ l′) k p t t′ = on (count-cases _ _ _ t) (count-cases _ _ _ t′)
         where
           on : (points A q w ≡ points a b (h r)) ⊎ (0 < count (points A q w) (chainOf h b s l′ a))
               → (points q B v ≡ points a b (h r)) ⊎ (0 < count (points q B v) (chainOf h b s l′ a))
-              → count x (points a b (h r) ∷ chainOf h b s l′ a) + one x (points A B w)
-              ≡ count x (chainOf h b s l′ b) + one x (points A q w) + one x (points q B v)
+              → Bypass q A B w v x (points a b (h r) ∷ chainOf h b s l′ a) (chainOf h b s l′ b)
           on (inl e) u = absurd (n (cc))
           on (inr u) (inr u′) = absurd (omega (arith, k .0, (bounds h q B v b s l′ a (k .1) u′) .0))
           on (inr u) (inl e) =
@@ -95,8 +97,7 @@ module _ {R : Type 0} (h : R → Dig) where
               let wrapped = rewrap h A w b s l′ a b (omega (arith, k .0)) (k .1) u′ x in
               simp count-cons (omega (arith, wrapped, ap (one x) e, ap (one x) e₁, ap (one x) e₂))
 
-      go : (t : Bool) → eqb q a ≡ t → count x (chainOf h a r l a) + one x (points A B w)
-          ≡ count x (ring h (pick t l (item a r ∷ remove q l))) + one x (points A q w) + one x (points q B v)
+      go : (t : Bool) → eqb q a ≡ t → Bypass q A B w v x (chainOf h a r l a) (ring h (pick t l (item a r ∷ remove q l)))
       go true i = first l (g .1) (eqb-true q a i) m m′
       go false i =
           remove-chain q A B w v a r l a (omega arith) (g .1)
@@ -106,7 +107,7 @@ module _ {R : Type 0} (h : R → Dig) where
 
   put-head : (A B : ℕ) (w : Dig) (r : R) (a : ℕ) (s : R) (l : List (Item R)) (z : ℕ) → A ≡ a → Ascending a l
       → 0 < count (points A B w) (chainOf h a s l z) → (x : Leaf)
-      → count x (chainOf h a r l z) + one x (points A B w) ≡ count x (chainOf h a s l z) + one x (points A B (h r))
+      → Rehash A B w (h r) x (chainOf h a r l z) (chainOf h a s l z)
   put-head A B w r a s [] z p g m x =
       let e = count-single _ _ m in
       let e′ : points A B (h r) ≡ points a z (h r) = cc in
@@ -114,8 +115,7 @@ module _ {R : Type 0} (h : R → Dig) where
   put-head A B w r a s (item b t ∷ l) z p g m x = go (count-cases _ _ _ m)
     where
       go : (points A B w ≡ points a b (h s)) ⊎ (0 < count (points A B w) (chainOf h b t l z))
-          → count x (points a b (h r) ∷ chainOf h b t l z) + one x (points A B w)
-          ≡ count x (points a b (h s) ∷ chainOf h b t l z) + one x (points A B (h r))
+          → Rehash A B w (h r) x (points a b (h r) ∷ chainOf h b t l z) (points a b (h s) ∷ chainOf h b t l z)
       go (inl e) =
           let e′ : points A B (h r) ≡ points a b (h r) = cc in
           simp count-cons (omega (arith, ap (one x) e, ap (one x) e′))
@@ -123,8 +123,7 @@ module _ {R : Type 0} (h : R → Dig) where
 
   put-tail : (A B : ℕ) (w : Dig) (r : R) (a : ℕ) (s : R) (l : List (Item R)) (z : ℕ) → A ≢ a → Ascending a l
       → 0 < count (points A B w) (chainOf h a s l z) → (x : Leaf)
-      → count x (chainOf h a s (putRecord A r l) z) + one x (points A B w)
-      ≡ count x (chainOf h a s l z) + one x (points A B (h r))
+      → Rehash A B w (h r) x (chainOf h a s (putRecord A r l) z) (chainOf h a s l z)
   unfolding putRecord
   put-tail A B w r a s [] z n g m x = let e = count-single _ _ m in absurd (n (cc))
   put-tail A B w r a s (item b t ∷ l) z n g m x =
@@ -132,23 +131,21 @@ module _ {R : Type 0} (h : R → Dig) where
     where
       go : (d : Bool) → eqb A b ≡ d → (points A B w ≡ points a b (h s)) ⊎ (0 < count (points A B w) (chainOf h b t l z))
           → (A ≢ b → 0 < count (points A B w) (chainOf h b t l z)
-          → count x (chainOf h b t (putRecord A r l) z) + one x (points A B w)
-          ≡ count x (chainOf h b t l z) + one x (points A B (h r)))
-          → count x (chainOf h a s (pick d (item b r ∷ l) (item b t ∷ putRecord A r l)) z) + one x (points A B w)
-          ≡ count x (points a b (h s) ∷ chainOf h b t l z) + one x (points A B (h r))
+          → Rehash A B w (h r) x (chainOf h b t (putRecord A r l) z) (chainOf h b t l z))
+          → Rehash A B w (h r) x (chainOf h a s (pick d (item b r ∷ l) (item b t ∷ putRecord A r l)) z)
+          (points a b (h s) ∷ chainOf h b t l z)
       go d i (inl e) f = absurd (n (cc))
       go true i (inr u) f = simp count-cons (omega (arith, put-head A B w r b t l z (eqb-true A b i) (g .1) u x))
       go false i (inr u) f = simp count-cons (omega (arith, f (eqb-false A b i) u))
 
   pub put-ring : (A B : ℕ) (w : Dig) (r : R) (ls : List (Item R)) → Ascending 0 ls → 0 < count (points A B w) (ring h ls)
-      → (x : Leaf) → count x (ring h (putRecord A r ls)) + one x (points A B w) ≡ count x (ring h ls) + one x (points A B (h r))
+      → (x : Leaf) → Rehash A B w (h r) x (ring h (putRecord A r ls)) (ring h ls)
   unfolding putRecord
   put-ring A B w r [] g m x = absurd (omega (arith, count-nil (points A B w)))
   put-ring A B w r (item a s ∷ l) g m x = go (eqb A a) refl
     where
       go : (d : Bool) → eqb A a ≡ d
-          → count x (ring h (pick d (item a r ∷ l) (item a s ∷ putRecord A r l))) + one x (points A B w)
-          ≡ count x (chainOf h a s l a) + one x (points A B (h r))
+          → Rehash A B w (h r) x (ring h (pick d (item a r ∷ l) (item a s ∷ putRecord A r l))) (chainOf h a s l a)
       go true i = put-head A B w r a s l a (eqb-true A a i) (g .1) m x
       go false i = put-tail A B w r a s l a (eqb-false A a i) (g .1) m x
 
@@ -156,8 +153,7 @@ module _ {R : Type 0} (h : R → Dig) where
 
   insert-chain : (q A B : ℕ) (w : Dig) (new : R) (a : ℕ) (r : R) (l : List (Item R)) (z : ℕ) → z ≤ a → Ascending a l → a < q
       → Unlisted q l → Gap A B q → 0 < count (points A B w) (chainOf h a r l z) → (x : Leaf)
-      → count x (chainOf h a r (insert q new l) z) + one x (points A B w)
-      ≡ count x (chainOf h a r l z) + one x (points A q w) + one x (points q B (h new))
+      → Bypass q A B w (h new) x (chainOf h a r (insert q new l) z) (chainOf h a r l z)
   unfolding insert
   insert-chain q A B w new a r [] z hz g hq f k m x =
       let e = count-single _ _ m in
@@ -181,10 +177,9 @@ module _ {R : Type 0} (h : R → Dig) where
 
       go : (d : Bool) → ltb q b ≡ d → (points A B w ≡ points a b (h r)) ⊎ (0 < count (points A B w) (chainOf h b s l z))
           → (b < q → 0 < count (points A B w) (chainOf h b s l z)
-          → count x (chainOf h b s (insert q new l) z) + one x (points A B w)
-          ≡ count x (chainOf h b s l z) + one x (points A q w) + one x (points q B (h new)))
-          → count x (chainOf h a r (pick d (item q new ∷ item b s ∷ l) (item b s ∷ insert q new l)) z) + one x (points A B w)
-          ≡ count x (points a b (h r) ∷ chainOf h b s l z) + one x (points A q w) + one x (points q B (h new))
+          → Bypass q A B w (h new) x (chainOf h b s (insert q new l) z) (chainOf h b s l z))
+          → Bypass q A B w (h new) x (chainOf h a r (pick d (item q new ∷ item b s ∷ l) (item b s ∷ insert q new l)) z)
+          (points a b (h r) ∷ chainOf h b s l z)
       go true u (inl e) i =
           let e₁ : points A q w ≡ points a q (h r) = cc in
           let e₂ : points q B (h new) ≡ points q b (h new) = cc in
@@ -196,9 +191,7 @@ module _ {R : Type 0} (h : R → Dig) where
       go false u (inr t) i = simp count-cons (omega (arith, i (omega (arith, ltb-false q b u, f .0)) t))
 
   pub insert-ring : (q A B : ℕ) (w : Dig) (new : R) (ls : List (Item R)) → Ascending 0 ls → Gap A B q
-      → 0 < count (points A B w) (ring h ls) → (x : Leaf)
-      → count x (ring h (insert q new ls)) + one x (points A B w)
-      ≡ count x (ring h ls) + one x (points A q w) + one x (points q B (h new))
+      → 0 < count (points A B w) (ring h ls) → (x : Leaf) → Bypass q A B w (h new) x (ring h (insert q new ls)) (ring h ls)
   unfolding insert
   insert-ring q A B w new [] g k m x = absurd (omega (arith, count-nil (points A B w)))
   insert-ring q A B w new (item a r ∷ l) g k m x = go (ltb q a) refl (unlisted-in h q A B w a r l a (omega arith) (g .1) k m)
@@ -210,8 +203,7 @@ module _ {R : Type 0} (h : R → Dig) where
       wrap u v (inl t) (before k₁ k₂ k₃) = absurd (omega arith)
 
       go : (d : Bool) → ltb q a ≡ d → Unlisted q (item a r ∷ l)
-          → count x (ring h (pick d (item q new ∷ item a r ∷ l) (item a r ∷ insert q new l))) + one x (points A B w)
-          ≡ count x (chainOf h a r l a) + one x (points A q w) + one x (points q B (h new))
+          → Bypass q A B w (h new) x (ring h (pick d (item q new ∷ item a r ∷ l) (item a r ∷ insert q new l))) (chainOf h a r l a)
       go true u f =
           let v = bounds h A B w a r l a (g .1) m in
           let p : B ≡ a = wrap (ltb-true q a u) (v .0) (v .1) k in
