@@ -2,9 +2,9 @@
 // Replies go out together, and all of them before more input is waited for. `session` has the work and its law: what is
 // written, however the input arrives, is the replies to its lines (specs/Program.antt there follows the loops here).
 use paper::Registers;
-ghost use Prim.Native.Nat.{_≤_};
+ghost use Prim.Native.Nat.{_<_, _≤_};
 ghost use lib.ListN.{length};
-ghost use Rattle.knotcinder.specs.Loop.{Through};
+ghost use Rattle.knotcinder.specs.Loop.{Replies, Standing, Through};
 
 // What a piece of input left: the registers, how many bytes are held of a line, and whether its replies could be written.
 struct Left {
@@ -13,9 +13,17 @@ struct Left {
     written: bool,
 }
 
+// The one place that writes, and only reply lines.
+fn say(replies: &[u8]) -> bool
+    requires { ⌜ Replies (now replies) ⌝ }
+{
+    io::write_all(1, replies)
+}
+
 // Answers a piece of input: as long as it has bytes left, lines are served and their replies written.
 fn serve_piece(r: Registers, piece: &[u8], line: &mut [u8], held: usize, out: &mut [u8]) -> Left
-    requires { ⌜ (held ≤ length (now line)) × (195 ≤ length (now out)) ⌝ }
+    requires { ⌜ (held ≤ length (now line)) × (4244 < length (now line)) × (195 ≤ length (now out)) ⌝ }
+    requires { ⌜ Standing r (now line) held ⌝ }
     ensures { λ o. ⌜ Through r (now (piece .entry)) (now (line .entry)) held o (now (line .exit)) ⌝ }
 {
     let mut registers = r;
@@ -28,7 +36,7 @@ fn serve_piece(r: Registers, piece: &[u8], line: &mut [u8], held: usize, out: &m
         registers = after;
         at = o.next;
         n = o.held;
-        if !io::write_all(1, &out[0..w]) {
+        if !say(&out[0..w]) {
             return Left {
                 registers,
                 held: n,
@@ -44,16 +52,19 @@ fn serve_piece(r: Registers, piece: &[u8], line: &mut [u8], held: usize, out: &m
 }
 
 // Answers a last line without 0A.
-fn end(r: Registers, line: &[u8], held: usize, out: &mut [u8]) {
+fn end(r: Registers, line: &[u8], held: usize, out: &mut [u8])
+    requires { ⌜ (4244 < length (now line)) × (195 ≤ length (now out)) ⌝ }
+    requires { ⌜ Standing r (now line) held ⌝ }
+{
     let n = session::finish(r, line, held, out);
-    io::write_all(1, &out[0..n]);
+    say(&out[0..n]);
 }
 
 // Reads to the end of the input. Where a read or a write fails it stops; what is then held of a line is not answered, as
 // nobody knows how that line goes on.
 // A proved loop has to end, and nothing says that input does: the turns are counted down from a number that no run uses up.
 fn run(input: &mut [u8], line: &mut [u8], out: &mut [u8])
-    requires { ⌜ 195 ≤ length (now out) ⌝ }
+    requires { ⌜ (4244 < length (now line)) × (195 ≤ length (now out)) ⌝ }
 {
     let mut registers = session::fresh();
     let mut held: usize = 0;

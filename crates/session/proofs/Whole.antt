@@ -12,7 +12,7 @@ use lib.Dec.{eqb, ltb}
 use lib.ListN.{length, take, drop, set, length-append, length-take, length-drop, length-set, drop-of-length-le}
 use lib.Seq.{take-all, take-at, length-take-le, drop-drop}
 use Rattle.seqs.specs.Choose.{pick}
-use Rattle.pieces.specs.Whole.{linesOf, cutTo, foundIn, spaceLeft, heldLeft, foundInAll}
+use Rattle.pieces.specs.Whole.{lastOf, linesOf, cutTo, foundIn, spaceLeft, heldLeft, foundInAll}
 use Rattle.pieces.proofs.Whole.{cut-anyhow}
 use Rattle.paper.specs.declared.Registers.{Registers}
 use Rattle.paper.specs.Module.{Told, replyLine}
@@ -30,6 +30,10 @@ replies-append s [] m = refl
 replies-append s (x ∷ l) m =
     rw (replies-append (toldOf s x .after) l m, append-assoc)
 
+pub registers-append : (s : Registers) (l m : List (List ℕ)) → registersAfter s (l ++ m) ≡ registersAfter (registersAfter s l) m
+registers-append s [] m = refl
+registers-append s (x ∷ l) m = registers-append (toldOf s x .after) l m
+
 -- a line cut to 4,245 bytes or more is answered as the whole line: cut, it is too long as well
 told-by : (s : Registers) (l : List ℕ) (room : ℕ) → 4244 < room → Dec (length l ≤ room) → toldOf s (take room l) ≡ toldOf s l
 told-by s l room h (yes k) = ap (toldOf s) (take-all room l k)
@@ -46,13 +50,14 @@ replies-cut s (l ∷ ls) room h = rw (told-cut s l room h, replies-cut (toldOf s
 
 -- ── one call of `serve` ──
 
--- Serving the rest of the piece p came to t: what stands in the output, with the replies to what is left to find, is what stood
--- there with the replies to all that was to find; and so with the registers, the space and what is held of it.
+-- Serving the rest of the piece p came to t: it answered `lines`, the first of those that were to find, and what is left to find
+-- are the others; the replies to them stand behind what stood in the output, and the registers are those behind them.
 record Goes (p : List ℕ) (t : Stand) (rest : List ℕ) (i : ℕ) (s : Registers) (d : List ℕ) (n : ℕ) (o : List ℕ) (w : ℕ)
     : Type 0 where
-  bytes : take (t .written) (t .out) ++ repliesTo (t .registers) (foundIn (drop (t .next) p) (t .line) (t .held))
-      ≡ take w o ++ repliesTo s (foundIn rest d n)
-  regs : registersAfter (t .registers) (foundIn (drop (t .next) p) (t .line) (t .held)) ≡ registersAfter s (foundIn rest d n)
+  lines : List (List ℕ)
+  found : foundIn rest d n ≡ lines ++ foundIn (drop (t .next) p) (t .line) (t .held)
+  bytes : take (t .written) (t .out) ≡ take w o ++ repliesTo s lines
+  regs : t .registers ≡ registersAfter s lines
   space : spaceLeft (drop (t .next) p) (t .line) (t .held) ≡ spaceLeft rest d n
   held : heldLeft (drop (t .next) p) (t .line) (t .held) ≡ heldLeft rest d n
   from : i ≤ t .next
@@ -98,8 +103,10 @@ module _ (p : List ℕ) where
       → Goes p (servedFrom (b ∷ rest) i s d n o w) (b ∷ rest) i s d n o w
   goes-by rest b i s d n o w true u v er eu ev e h k ih =
       rw er (record {
-        bytes = rw e;
-        regs = rw e;
+        lines = [];
+        found = rw e;
+        bytes = sym (append-nil (take w o));
+        regs = refl;
         space = rw e;
         held = rw e;
         from = omega arith;
@@ -114,11 +121,13 @@ module _ (p : List ℕ) where
       let long = reply-long t o w h in
       let g = ih (t .after) d 0 (outAfter t o w) (w + length (replyLine t)) (omega arith) (omega arith) in
       rw (er, eu) (record {
+        lines = take n d ∷ g .lines;
+        found = rw eu (ap (λ (x : List (List ℕ)). take n d ∷ x) (g .found));
         bytes =
-            g .bytes ∙ ap (λ (x : List ℕ). x ++ repliesTo (t .after) (foundIn rest d 0)) (reply-behind t o w h)
-            ∙ append-assoc (take w o) (replyLine t) (repliesTo (t .after) (foundIn rest d 0))
-            ∙ rw (eu) (ap (λ (x : Told). take w o ++ (replyLine x ++ repliesTo (x .after) (foundIn rest d 0))) same);
-        regs = g .regs ∙ rw (eu) (ap (λ (x : Told). registersAfter (x .after) (foundIn rest d 0)) same);
+            g .bytes ∙ ap (λ (x : List ℕ). x ++ repliesTo (t .after) (g .lines)) (reply-behind t o w h)
+            ∙ append-assoc (take w o) (replyLine t) (repliesTo (t .after) (g .lines))
+            ∙ ap (λ (x : Told). take w o ++ (replyLine x ++ repliesTo (x .after) (g .lines))) same;
+        regs = g .regs ∙ ap (λ (x : Told). registersAfter (x .after) (g .lines)) same;
         space = g .space ∙ rw eu;
         held = g .held ∙ rw eu;
         from = omega (arith, g .from);
@@ -130,8 +139,10 @@ module _ (p : List ℕ) where
   goes-by rest b i s d n o w false false true er eu ev e h k ih =
       let g = ih s (set d n b) (n + 1) o w h (rw (length-set d n b) (omega (arith, ltb-true))) in
       rw (er, eu, ev) (record {
-        bytes = g .bytes ∙ rw (eu, ev);
-        regs = g .regs ∙ rw (eu, ev);
+        lines = g .lines;
+        found = rw (eu, ev) (g .found);
+        bytes = g .bytes;
+        regs = g .regs;
         space = g .space ∙ rw (eu, ev);
         held = g .held ∙ rw (eu, ev);
         from = omega (arith, g .from);
@@ -143,8 +154,10 @@ module _ (p : List ℕ) where
   goes-by rest b i s d n o w false false false er eu ev e h k ih =
       let g = ih s d n o w h k in
       rw (er, eu, ev) (record {
-        bytes = g .bytes ∙ rw (eu, ev);
-        regs = g .regs ∙ rw (eu, ev);
+        lines = g .lines;
+        found = rw (eu, ev) (g .found);
+        bytes = g .bytes;
+        regs = g .regs;
         space = g .space ∙ rw (eu, ev);
         held = g .held ∙ rw (eu, ev);
         from = omega (arith, g .from);
@@ -159,8 +172,10 @@ module _ (p : List ℕ) where
       → Goes p (servedFrom rest i s d n o w) rest i s d n o w
   goes [] i e s d n o w h k =
       record {
-        bytes = rw e;
-        regs = rw e;
+        lines = [];
+        found = rw e;
+        bytes = sym (append-nil (take w o));
+        regs = refl;
         space = rw e;
         held = rw e;
         from = omega arith;
@@ -194,6 +209,22 @@ module _ (p : List ℕ) (s : Registers) (d : List ℕ) (n : ℕ) (o : List ℕ) 
   onward-in (b ∷ rest) i e l =
       onward-by rest b i (eqb b 0x0a) (ltb n (length d)) refl refl (sym (drop-drop 1 i p) ∙ ap (λ (x : List ℕ). drop 1 x) e)
 
+-- what is left to find tells the registers behind all that was to find, and the replies to it
+module _ {p : List ℕ} {t : Stand} {rest : List ℕ} {i : ℕ} {s : Registers} {d : List ℕ} {n : ℕ} {o : List ℕ} {w : ℕ}
+    (g : Goes p t rest i s d n o w) where
+  goes-regs : registersAfter (t .registers) (foundIn (drop (t .next) p) (t .line) (t .held)) ≡ registersAfter s (foundIn rest d n)
+  goes-regs = rw (g .found, registers-append s (g .lines), g .regs)
+
+  goes-bytes : take (t .written) (t .out) ++ repliesTo (t .registers) (foundIn (drop (t .next) p) (t .line) (t .held))
+      ≡ take w o ++ repliesTo s (foundIn rest d n)
+  goes-bytes = rw (g .found, replies-append s (g .lines), g .bytes, g .regs, append-assoc)
+
+-- Bytes b are the replies to some lines from registers s, and s′ are the registers behind these.
+pub record Answers (s : Registers) (b : List ℕ) (s′ : Registers) : Type 0 where
+  pub lines : List (List ℕ)
+  pub bytes : b ≡ repliesTo s lines
+  pub regs : s′ ≡ registersAfter s lines
+
 -- a call, with any count of held bytes
 module _ (s : Registers) (p : List ℕ) (at : ℕ) (d : List ℕ) (n : ℕ) (o : List ℕ) where
   call-goes : Goes p (servedOf s p at d n o) (drop at p) at s d (min n (length d)) o 0
@@ -214,17 +245,34 @@ module _ (s : Registers) (p : List ℕ) (at : ℕ) (d : List ℕ) (n : ℕ) (o :
         let f : r .written ≡ servedOf s p at d n o .written = ap (λ (x : Served). x .written) (e .returned) in
         omega (arith, call-goes .room, ap length (e .out-left))
 
+    -- what is to be written are the replies to lines, and the registers are those behind these
+    pub served-lines : Answers s (take (r .written) out) (r .registers)
+    served-lines =
+        rw (e .returned, e .out-left) (record { lines = call-goes .lines; bytes = call-goes .bytes; regs = call-goes .regs })
+
     -- and what is left to find behind it is what was to find, without the lines that it answered
     pub served-rest : n ≤ length d → Rest (drop at p) s d n (drop (r .next) p) (r .registers) line (r .held)
     served-rest h =
         let m : min n (length d) ≡ n = omega arith in
         let g = subst (λ (x : ℕ). Goes p (servedOf s p at d n o) (drop at p) at s d x o 0) m call-goes in
-        rw (e .returned, e .line-left) (record { regs = g .regs; space = g .space; held = g .held; fits = g .fits })
+        rw (e .returned, e .line-left)
+        (record { regs = goes-regs g; space = g .space; held = g .held; fits = g .fits })
 
 pub finish-within : (reply out : List ℕ) (n : ℕ) (out′ : List ℕ) → FinishedAs reply out n out′ → n ≤ length out′
 finish-within reply out n out′ e =
     let l : length out′ ≡ length reply + (length out - length reply) = ap length (e .left) ∙ simp (length-append, length-drop) in
     omega (arith, e .returned)
+
+-- what `finish` writes is the reply to what is held, if anything is
+last-answered : (s : Registers) (l : List ℕ) (room : ℕ) → 195 ≤ room → lastReply s l room ≡ repliesTo s (lastOf l)
+last-answered s [] room r = refl
+last-answered s (x ∷ l) room r = ap replyLine (with-room s (x ∷ l) room r) ∙ sym (append-nil (replyLine (toldOf s (x ∷ l))))
+
+pub finish-bytes : (s : Registers) (l out : List ℕ) (n : ℕ) (out′ : List ℕ) → 195 ≤ length out
+    → FinishedAs (lastReply s l (length out)) out n out′ → take n out′ ≡ repliesTo s (lastOf l)
+finish-bytes s l out n out′ r e =
+    let reply = lastReply s l (length out) in
+    rw (e .left) (take-at reply (drop (length reply) out) n (sym (e .returned))) ∙ last-answered s l (length out) r
 
 -- ── a piece ──
 
@@ -256,8 +304,8 @@ turns-by k p at s d n o true e l h r ih =
     let on = onward s p at d n o a r in
     let u = ih (t .next) (t .registers) (t .line) (t .held) (t .out) (omega arith) (g .fits) (omega (arith, g .longer)) in
     rw e (record {
-      bytes = ap (λ (x : List ℕ). take (t .written) (t .out) ++ x) (u .bytes) ∙ g .bytes;
-      regs = u .regs ∙ g .regs;
+      bytes = ap (λ (x : List ℕ). take (t .written) (t .out) ++ x) (u .bytes) ∙ goes-bytes g;
+      regs = u .regs ∙ goes-regs g;
       space = u .space ∙ g .space;
       held = u .held ∙ g .held;
       room = u .room;
@@ -271,18 +319,16 @@ turns (suc k) p at s d n o l h r = turns-by k p at s d n o (ltb at (length p)) r
 
 -- ── all pieces ──
 
--- what `finish` writes is the reply to what is held
-last-by : (s : Registers) (d : List ℕ) (n : ℕ) (o l : List ℕ) (b : Bool)
-    → ltb 0 n ≡ b → n ≤ length d → 195 ≤ length o → take n d ≡ l
-    → lastReply s l (length o) ≡ repliesTo s (pick b (l ∷ []) [])
-last-by s d n o [] true e h r f =
+-- what is held is a last line where it is not nothing
+last-by : (d : List ℕ) (n : ℕ) (l : List ℕ) (b : Bool) → ltb 0 n ≡ b → n ≤ length d → take n d ≡ l
+    → lastOf l ≡ pick b (l ∷ []) []
+last-by d n [] true e h f =
     let z = length-take-le n d h in
     let y : length (take n d) ≡ 0 = ap length f in
     absurd (omega (arith, ltb-true))
-last-by s d n o (x ∷ l) true e h r f =
-    ap replyLine (with-room s (x ∷ l) (length o) r) ∙ sym (append-nil (replyLine (toldOf s (x ∷ l))))
-last-by s d n o [] false e h r f = refl
-last-by s d n o (x ∷ l) false e h r f =
+last-by d n (x ∷ l) true e h f = refl
+last-by d n [] false e h f = refl
+last-by d n (x ∷ l) false e h f =
     let z = length-take-le n d h in
     let y : length (take n d) ≡ suc (length l) = ap length f in
     absurd (omega (arith, ltb-false))
@@ -291,7 +337,8 @@ all-found : (ps : List (List ℕ)) (s : Registers) (d : List ℕ) (n : ℕ) (o :
     → writtenFor ps s d n o ≡ repliesTo s (foundInAll ps d n)
 all-found [] s d n o h r =
     let reply = lastReply s (take n d) (length o) in
-    take-at reply (drop (length reply) o) (length reply) refl ∙ last-by s d n o (take n d) (ltb 0 n) refl h r refl
+    take-at reply (drop (length reply) o) (length reply) refl ∙ last-answered s (take n d) (length o) r
+    ∙ ap (repliesTo s) (last-by d n (take n d) (ltb 0 n) refl h refl)
 all-found (p ∷ ps) s d n o h r =
     let t : Turned = pieceOf p s d n o in
     let u : Turns t p s d n = turns (length p) p 0 s d n o (omega arith) h r in

@@ -1,14 +1,26 @@
--- What is to be written stands in the output.
+-- What is to be written stands in the output, and is the reply to what is held.
 use native.Mathlib.Omega.{arith}
-use Rattle.session.proofs.Whole.{finish-within}
+use lib.ListN.{take}
+use Rattle.pieces.specs.Whole.{lastOf}
+use Rattle.session.proofs.Whole.{finish-within, finish-bytes}
+use Rattle.knotcinder.proofs.Laws.{standing-reached, replies}
 use borrow.Author.Needs.{needs}
 use Rattle.knotcinder.proofs.end.Statement.{statement}
 use Rattle.knotcinder.proofs.end.Tie as tie
 
-part-write-all-end : tie.Need-part-write-all-end
-part-write-all-end c =
+part-say-end : tie.Need-part-say-end
+part-say-end c =
     let t = c .before .before .before .finish in
     omega (arith, finish-within _ _ _ _ (t .ensures))
+
+say-requires : tie.Need-say-requires
+say-requires c κs =
+    let t = c .before .before .before .before .finish in
+    let b = c .before .before .before .before .before .before .before .before in
+    let a = b .args in
+    let held = take (a .held) (a .line .now) in
+    replies (t .result) _ (lastOf held) (standing-reached (b .pre .1))
+    (finish-bytes (a .r) held (a .out .now) (t .result) _ (omega (arith, b .pre)) (t .ensures))
 
 pub end-spec : {M : Type 1} → statement M
 end-spec =
@@ -17,7 +29,7 @@ end-spec =
     (λ c κs. search needs)
     (λ c. search needs)
     (λ c. search needs)
-    part-write-all-end
-    (λ c κs. search needs)
+    part-say-end
+    say-requires
     (λ c. search needs)
     (λ c. search needs))

@@ -1,25 +1,56 @@
 -- What is held fits the line's space, and the output keeps its length, whichever way a turn ends; the turns left fall.
-use mathlib.Core.Path.{_≡_, refl}
-use Prim.Native.Nat.{_≤_}
+use mathlib.Core.Path.{_≡_, refl, _∙_}
+use Prim.Native.Nat.{_<_, _≤_}
 use native.Mathlib.Omega.{arith}
 use lib.ListN.{length}
 use borrow.Author.Needs.{needs}
+use Rattle.knotcinder.specs.Loop.{Standing}
+use Rattle.knotcinder.proofs.Laws.{standing-first, standing-next}
 use Rattle.knotcinder.proofs.run.Statement.{statement}
 use Rattle.knotcinder.proofs.run.Tie as tie
 
 abbrev Inv-loop : tie.InvT-loop
 Inv-loop input₀ line₀ out₀ registers₀ held₀ turns₀ input line out registers held turns =
     (held ≤ length line)
+    × (4244 < length line)
     × (195 ≤ length out)
     × (length input ≡ length input₀)
     × (length line ≡ length line₀)
     × (length out ≡ length out₀)
+    × Standing registers line held
 
 abbrev μ-loop : tie.MeasureT-loop
 μ-loop input₀ line₀ out₀ registers₀ held₀ turns₀ input line out registers held turns = turns
 
 loop-holds : tie.Need-loop-holds Inv-loop μ-loop
-loop-holds c = (omega arith, omega arith, refl, refl, refl)
+loop-holds c = (omega arith, omega arith, omega arith, refl, refl, refl, standing-first _ _ (c .fresh .ensures))
+
+end-requires : tie.Need-end-requires Inv-loop μ-loop
+end-requires c κs =
+    let i = c .before .before .before .before .before .before .before .before .before .before .before .loop .inv in
+    ((i .1, i .2), i .6)
+
+serve-piece-requires : tie.Need-serve-piece-requires Inv-loop μ-loop
+serve-piece-requires c κs =
+    let i = c .before .before .before .before .before .before .before .before .before .before .before .before .before .loop .inv in
+    ((i .0, i .1, i .2), i .6)
+
+loop-again : tie.Need-loop-again Inv-loop μ-loop
+loop-again c =
+    let t = c .before .before .before .before .before .before .before in
+    let r = t .before .before .before .before .before .before .before .before .before .before .before .read in
+    let i = t .before .before .before .before .before .before .before .before .before .before .before .before .before .before .loop .inv in
+    let o = t .serve-piece in
+    let line = o .kept .1 .1 .0 in
+    let out = o .kept .1 .1 .1 .1 .0 in (
+      omega (arith, o .ensures .fits, line),
+      omega (arith, line, i .1),
+      omega (arith, out, i .2),
+      r .kept .1 .0 ∙ i .3,
+      line ∙ i .4,
+      out ∙ i .5,
+      standing-next (i .6) (o .ensures) (c .before .if3 .left),
+    )
 
 pub run-spec : {M : Type 1} → statement M
 run-spec =
@@ -35,7 +66,7 @@ run-spec =
     (λ c. search needs)
     (λ c. search needs)
     (λ c κs. search needs)
-    (λ c κs. search needs)
+    end-requires
     (λ c. search needs)
     (λ c. search needs)
     (λ c. search needs)
@@ -43,14 +74,14 @@ run-spec =
     (λ c. search needs)
     (λ c. search needs)
     (λ c. search needs)
-    (λ c κs. search needs)
+    serve-piece-requires
     (λ c. search needs)
     (λ c. search needs)
     (λ c. search needs)
     (λ c. search needs)
     (λ c. search needs)
     (λ c. search needs)
-    (λ c. search needs)
+    loop-again
     (λ c. search needs)
     (λ c. search needs)
     (λ c. search needs)

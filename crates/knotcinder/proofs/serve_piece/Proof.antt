@@ -6,8 +6,8 @@ use Prim.Native.Nat.{ℕ, _-_, _≤_}
 use native.Mathlib.Omega.{arith}
 use lib.ListN.{length, drop}
 use borrow.Author.Needs.{needs}
-use Rattle.session.proofs.Whole.{Rest, rest-start, rest-then, served-onward, served-within, served-rest}
-use Rattle.knotcinder.proofs.Laws.{through, stopped}
+use Rattle.session.proofs.Whole.{Rest, rest-start, rest-then, served-onward, served-within, served-lines, served-rest}
+use Rattle.knotcinder.proofs.Laws.{through, stopped, Reached, standing-reached, reached-next, replies}
 use Rattle.knotcinder.proofs.serve_piece.Statement.{statement}
 use Rattle.knotcinder.proofs.serve_piece.Tie as tie
 
@@ -17,6 +17,7 @@ Inv-loop piece line₀ held out₀ registers₀ at₀ n₀ line out registers at
     × (195 ≤ length out)
     × (length out ≡ length out₀)
     × Rest piece registers₀ line₀ held (drop at piece) registers line n
+    × Reached registers
 
 abbrev μ-loop : tie.MeasureT-loop
 μ-loop piece line₀ held out₀ registers₀ at₀ n₀ line out registers at n = length piece - at
@@ -26,16 +27,28 @@ piece l = l .before .before .before .before .args .piece .now
 
 loop-holds : tie.Need-loop-holds Inv-loop μ-loop
 loop-holds c =
-    let a = c .before .before .before .args in
-    (refl, omega arith, refl, rest-start (a .piece .now) (a .r) (a .line .now) (a .held) (omega arith))
+    let a = c .before .before .before .args in (
+      refl,
+      omega arith,
+      refl,
+      rest-start (a .piece .now) (a .r) (a .line .now) (a .held) (omega arith),
+      standing-reached (c .before .before .before .pre .1),
+    )
 
-part-write-all-end : tie.Need-part-write-all-end Inv-loop μ-loop
-part-write-all-end c =
+part-say-end : tie.Need-part-say-end Inv-loop μ-loop
+part-say-end c =
     let t = c .before .before .before .before .before .before .serve in
     let l = c .before .before .before .before .before .before .before .before .before .before in
     let k = l .loop in
     let w = served-within (k .registers) (piece l) (k .at) (k .line) (k .n) (k .out) (t .result) _ _ (t .ensures) in
     omega arith
+
+say-requires : tie.Need-say-requires Inv-loop μ-loop
+say-requires c κs =
+    let t = c .before .before .before .before .before .before .before .serve in
+    let k = c .before .before .before .before .before .before .before .before .before .before .before .loop in
+    let a = served-lines (k .registers) (piece (c .before .before .before .before .before .before .before .before .before .before .before)) (k .at) (k .line) (k .n) (k .out) (t .result) _ _ (t .ensures) in
+    replies (t .result .written) _ (a .lines) (k .inv .4) (a .bytes)
 
 returns : tie.Need-returns Inv-loop μ-loop
 returns c =
@@ -63,7 +76,8 @@ loop-again c =
     let r = served-rest (k .registers) (piece l) (k .at) (k .line) (k .n) (k .out) (t .result) _ _ (t .ensures) (k .inv .3 .fits) in
     let line = t .kept .1 .1 .1 .0 in
     let out = t .kept .1 .1 .1 .1 .1 .0 in
-    (line ∙ k .inv .0, omega (arith, k .inv .1), out ∙ k .inv .2, rest-then (k .inv .3) r)
+    let a = served-lines (k .registers) (piece l) (k .at) (k .line) (k .n) (k .out) (t .result) _ _ (t .ensures) in
+    (line ∙ k .inv .0, omega (arith, k .inv .1), out ∙ k .inv .2, rest-then (k .inv .3) r, reached-next (k .inv .4) a)
 
 returns-2 : tie.Need-returns-2 Inv-loop μ-loop
 returns-2 c =
@@ -81,8 +95,8 @@ serve-piece-spec =
     (λ c κs. search needs)
     (λ c. search needs)
     (λ c. search needs)
-    part-write-all-end
-    (λ c κs. search needs)
+    part-say-end
+    say-requires
     (λ c. search needs)
     (λ c. search needs)
     returns
