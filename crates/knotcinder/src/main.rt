@@ -13,7 +13,8 @@ struct Left {
     written: bool,
 }
 
-// The one place that writes, and only reply lines.
+// The one place that writes. No contract can say what a call of the system does with these bytes; so the caller has to show
+// that they are reply lines.
 fn say(replies: &[u8]) -> bool
     requires { ⌜ Replies (now replies) ⌝ }
 {
@@ -21,6 +22,7 @@ fn say(replies: &[u8]) -> bool
 }
 
 // Answers a piece of input: as long as it has bytes left, lines are served and their replies written.
+// The caller has to show that a session can stand here, and spaces as the law of a whole input asks for them; so in `end`.
 fn serve_piece(r: Registers, piece: &[u8], line: &mut [u8], held: usize, out: &mut [u8]) -> Left
     requires { ⌜ (held ≤ length (now line)) × (4244 < length (now line)) × (195 ≤ length (now out)) ⌝ }
     requires { ⌜ Standing r (now line) held ⌝ }

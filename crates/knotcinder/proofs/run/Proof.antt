@@ -1,4 +1,5 @@
--- What is held fits the line's space, and the output keeps its length, whichever way a turn ends; the turns left fall.
+-- A session stands where a turn starts: at first with nothing held, then behind the piece that the turn before went through.
+-- What is held fits the line's space, and both spaces keep their lengths, whichever way a turn ends; the turns left fall.
 use mathlib.Core.Path.{_≡_, refl, _∙_}
 use Prim.Native.Nat.{_<_, _≤_}
 use native.Mathlib.Omega.{arith}

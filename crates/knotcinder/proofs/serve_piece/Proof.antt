@@ -1,5 +1,5 @@
 -- Each turn serves the rest of the piece from where the last one stopped, and goes on in it; what is left to find behind it is
--- what was to find, without the lines that it answered.
+-- what was to find, without the lines that it answered; and what it writes is the replies to these.
 use mathlib.Core.Path.{_≡_, refl, _∙_}
 use mathlib.Core.List.{List}
 use Prim.Native.Nat.{ℕ, _-_, _≤_}
@@ -46,8 +46,9 @@ part-say-end c =
 say-requires : tie.Need-say-requires Inv-loop μ-loop
 say-requires c κs =
     let t = c .before .before .before .before .before .before .before .serve in
-    let k = c .before .before .before .before .before .before .before .before .before .before .before .loop in
-    let a = served-lines (k .registers) (piece (c .before .before .before .before .before .before .before .before .before .before .before)) (k .at) (k .line) (k .n) (k .out) (t .result) _ _ (t .ensures) in
+    let l = c .before .before .before .before .before .before .before .before .before .before .before in
+    let k = l .loop in
+    let a = served-lines (k .registers) (piece l) (k .at) (k .line) (k .n) (k .out) (t .result) _ _ (t .ensures) in
     replies (t .result .written) _ (a .lines) (k .inv .4) (a .bytes)
 
 returns : tie.Need-returns Inv-loop μ-loop
