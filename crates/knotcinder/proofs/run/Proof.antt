@@ -23,6 +23,10 @@ Inv-loop input₀ line₀ out₀ registers₀ held₀ turns₀ input line out re
 abbrev μ-loop : tie.MeasureT-loop
 μ-loop input₀ line₀ out₀ registers₀ held₀ turns₀ input line out registers held turns = turns
 
+-- where the turn started in which a piece is served
+abbrev turn : tie.After-serve-piece-arg3 Inv-loop μ-loop → tie.At-loop Inv-loop μ-loop
+turn c = c .before .before .before .before .before .before .before .before .before .before .before .before .before
+
 loop-holds : tie.Need-loop-holds Inv-loop μ-loop
 loop-holds c = (omega arith, omega arith, omega arith, refl, refl, refl, standing-first _ _ (c .fresh .ensures))
 
@@ -33,14 +37,14 @@ end-requires c κs =
 
 serve-piece-requires : tie.Need-serve-piece-requires Inv-loop μ-loop
 serve-piece-requires c κs =
-    let i = c .before .before .before .before .before .before .before .before .before .before .before .before .before .loop .inv in
+    let i = turn c .loop .inv in
     ((i .0, i .1, i .2), i .6)
 
 loop-again : tie.Need-loop-again Inv-loop μ-loop
 loop-again c =
     let t = c .before .before .before .before .before .before .before in
     let r = t .before .before .before .before .before .before .before .before .before .before .before .read in
-    let i = t .before .before .before .before .before .before .before .before .before .before .before .before .before .before .loop .inv in
+    let i = turn (t .before) .loop .inv in
     let o = t .serve-piece in
     let line = o .kept .1 .1 .0 in
     let out = o .kept .1 .1 .1 .1 .0 in (
