@@ -5,7 +5,7 @@
 -- Parts       what a row of the table of kinds carries, written and read back
 -- Frames      a request written as a line reads back as that request
 -- Accepted    accepted: no check fails and every check's strings are formed; and back
--- Lines       a line is refused early, or answered as its request is
+-- Lines       what any line comes to: refused, or accepted with no check of its request failing
 --
 -- Any run is safe or has ended
 -- Formed      every string formed is well formed; a module that is not open forms none

@@ -1,18 +1,49 @@
--- A line is refused early, by a check of its own or of its frame's, with no string formed; or it is a sound frame in
--- digits with room for its reply, and is answered as its request is.
-use mathlib.Core.Path.{_≡_, refl}
-use mathlib.Core.Bool.{Bool, true, false}
-use mathlib.Core.List.{List, []}
+-- What any line comes to: it is refused, early and with no string formed or by a check of its request, or it is accepted, no
+-- check of its request failing.
+use mathlib.Core.Path.{_≡_, refl, sym, ap, subst, _∙_}
+use mathlib.Core.Bool.{Bool, true, false, true≢false}
+use mathlib.Core.List.{List, [], _∷_, List·Memᴰ, List·Memᴰ·head, List·Memᴰ·tail}
+use mathlib.Core.Logic.{_⊎_, inl, inr}
 use Prim.Native.Nat.{ℕ}
 use native.Mathlib.Omega.{arith}
 use lib.Dec.{ltb}
+use Rattle.seqs.specs.Choose.{both-true}
+use Rattle.seqs.specs.Bytes.{Bytes}
 use Rattle.hex.specs.Hex.{bytesOf}
+use Rattle.hex.proofs.Laws.{value-small}
 use Rattle.paper.specs.declared.Registers.{Registers}
-use Rattle.paper.specs.Strings.{Dig}
+use Rattle.paper.specs.Strings.{Dig, Str}
 use Rattle.paper.specs.Requests.{Request, kindOf, known, fits, requestOf}
-use Rattle.paper.specs.Refusals.{replyRoom, isHex, needs, refused, judge}
+use Rattle.paper.specs.Refusals.{replyRoom, isHex, Check, needs, Verdict, refused, passed, judge}
 use Rattle.paper.specs.Module.{told, answerTo}
-use Rattle.paper.proofs.Early.{late, none-early}
+use Rattle.paper.proofs.Early.{late, among, numbered, numbered-late, none-early}
+use Rattle.paper.proofs.Verdicts.{formedBy}
+use Rattle.rings.proofs.Nodes.{Within}
+use Rattle.runs.specs.Run.{Turn}
+use Rattle.runs.proofs.Accepted.{NoneFails, none-fails, judge-passed, accepted-passed, check-formed}
+use Rattle.runs.proofs.Widths.{Wide, wide}
+
+-- two digits make a byte
+line-bytes : (l : List ℕ) → Bytes (bytesOf l)
+line-bytes [] = tt
+line-bytes (a ∷ []) = tt
+line-bytes (a ∷ b ∷ l) = (omega (arith, value-small a, value-small b), line-bytes l)
+
+among-late : (ns : List ℕ) (c : Check) (cs : List Check) → numbered ns cs ≡ true → List·Memᴰ c cs → among (c .number) ns ≡ true
+among-late ns c (d ∷ cs) h (List·Memᴰ·head e) =
+    subst (λ (x : Check). among (x .number) ns ≡ true) (sym e) (both-true (among (d .number) ns) (numbered ns cs) h .0)
+among-late ns c (d ∷ cs) h (List·Memᴰ·tail m) = among-late ns c cs (both-true (among (d .number) ns) (numbered ns cs) h .1) m
+
+isPassed : Verdict → Bool
+isPassed (refused n fs) = false
+isPassed (passed fs) = true
+
+-- the request of a line, and its kind
+abbrev pub asked : Turn → Request
+asked t = requestOf (bytesOf (t .line))
+
+abbrev pub kindIn : Turn → ℕ
+kindIn t = kindOf (bytesOf (t .line))
 
 module _ (D : List ℕ → Dig) (s : Registers) (line : List ℕ) (space : ℕ) where
   abbrev f : List ℕ
@@ -21,26 +52,52 @@ module _ (D : List ℕ → Dig) (s : Registers) (line : List ℕ) (space : ℕ) 
   abbrev q : Request
   q = requestOf f
 
-  pub data Sorted : Type 0 where
-    early : (n : ℕ) → (n ≡ 0 → ⊥) → answerTo D s line space ≡ told D s (kindOf f) q (refused n []) → Sorted
-    on-time : ltb space replyRoom ≡ false → isHex line .fails ≡ false → known (kindOf f) ≡ true → fits f ≡ true
-        → answerTo D s line space ≡ told D s (kindOf f) q (judge late [] (needs D s q)) → Sorted
+  abbrev cs : List Check
+  cs = needs D s q
 
-  -- read and answered
+  pub data Sorted : Type 0 where
+    refusal : (n : ℕ) (fs : List Str) → (n ≡ 0 → ⊥) → answerTo D s line space ≡ told D s (kindOf f) q (refused n fs)
+        → (fs ≡ []) ⊎ (Wide q × (judge late [] cs ≡ refused n fs)) → Sorted
+    acceptance : (fs : List Str) → answerTo D s line space ≡ told D s (kindOf f) q (passed fs) → Wide q
+        → judge late [] cs ≡ passed fs → NoneFails cs → ((c : Check) → List·Memᴰ c cs → Within (c .forms) fs) → Sorted
+
+  -- ── a line that is read ──
+
+  -- where no check of the line or of its frame fails, it is answered as its request is
   pub read-is : ltb space replyRoom ≡ false → isHex line .fails ≡ false → known (kindOf f) ≡ true → fits f ≡ true
-      → answerTo D s line space ≡ told D s (kindOf f) q (judge late [] (needs D s q))
+      → answerTo D s line space ≡ told D s (kindOf f) q (judge late [] cs)
   unfolding answerTo
   read-is h i j k = let e = none-early D s q in rw (h, i, j, k, e .of-15, e .of-1, e .of-2, e .of-3) refl
 
+  by-verdict : (v : Verdict) → judge late [] cs ≡ v → Wide q → answerTo D s line space ≡ told D s (kindOf f) q v → Sorted
+  unfolding isPassed
+  by-verdict (refused n fs) j h e = refusal n fs zero-not e (inr (h, j))
+    where
+      zero-not : n ≡ 0 → ⊥
+      zero-not z =
+          let p = accepted-passed D s (kindOf f) q late cs refl (ap (λ (v : Verdict). told D s (kindOf f) q v .refusal) j ∙ z) in
+          true≢false (ap isPassed (sym (judge-passed late [] cs p) ∙ j))
+  by-verdict (passed fs) j h e =
+      let p = accepted-passed D s (kindOf f) q late cs refl (ap (λ (v : Verdict). told D s (kindOf f) q v .refusal) j) in
+      let all = numbered-late D s q in
+      acceptance fs e h j (none-fails late cs p all)
+      (λ c i x m.
+      subst (λ (l : List Str). List·Memᴰ x l) (ap formedBy (sym (judge-passed late [] cs p) ∙ j))
+      (check-formed x c late cs i (among-late late c cs all i) m))
+
+  -- ── any line ──
+
   by-tests : (a b c d : Bool) → ltb space replyRoom ≡ a → isHex line .fails ≡ b → known (kindOf f) ≡ c → fits f ≡ d → Sorted
   unfolding answerTo
-  by-tests true b c d h i j k = early 15 (λ z. omega arith) (let e = none-early D s q in rw (h, e .of-15) refl)
-  by-tests false true c d h i j k = early 1 (λ z. omega arith) (let e = none-early D s q in rw (h, i, e .of-15, e .of-1) refl)
+  by-tests true b c d h i j k = refusal 15 [] (λ z. omega arith) (let e = none-early D s q in rw (h, e .of-15) refl) (inl refl)
+  by-tests false true c d h i j k =
+      refusal 1 [] (λ z. omega arith) (let e = none-early D s q in rw (h, i, e .of-15, e .of-1) refl) (inl refl)
   by-tests false false false d h i j k =
-      early 2 (λ z. omega arith) (let e = none-early D s q in rw (h, i, j, e .of-15, e .of-1, e .of-2) refl)
+      refusal 2 [] (λ z. omega arith) (let e = none-early D s q in rw (h, i, j, e .of-15, e .of-1, e .of-2) refl) (inl refl)
   by-tests false false true false h i j k =
-      early 3 (λ z. omega arith) (let e = none-early D s q in rw (h, i, j, k, e .of-15, e .of-1, e .of-2, e .of-3) refl)
-  by-tests false false true true h i j k = on-time h i j k (read-is h i j k)
+      refusal 3 [] (λ z. omega arith) (let e = none-early D s q in rw (h, i, j, k, e .of-15, e .of-1, e .of-2, e .of-3) refl)
+      (inl refl)
+  by-tests false false true true h i j k = by-verdict (judge late [] cs) refl (wide f (line-bytes line) j k) (read-is h i j k)
 
   pub sorted : Sorted
   sorted = by-tests (ltb space replyRoom) (isHex line .fails) (known (kindOf f)) (fits f) refl refl refl refl

@@ -21,7 +21,7 @@ use Rattle.runs.specs.Liveness.{latestFirst, fed}
 use Rattle.runs.specs.Also.{onwards, ReadingsAgree}
 use Rattle.runs.proofs.Book.{Book}
 use Rattle.runs.proofs.Safe.{Core}
-use Rattle.runs.proofs.Sides.{asked}
+use Rattle.runs.proofs.Lines.{asked}
 use Rattle.runs.proofs.Runs.{Out, line-out, shown, run}
 
 -- ── what is in a book, whichever way it is kept ──

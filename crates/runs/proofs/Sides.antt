@@ -1,40 +1,29 @@
 -- What no memorandum bears on, a line at a time: the counter is a number of 64 bits, an open module has a secret, every string
 -- formed is well formed, and before opening nothing is touched.
-use mathlib.Core.Path.{_≡_, refl, sym, ap, subst, _∙_}
+use mathlib.Core.Path.{_≡_, refl, sym, subst, _∙_}
 use mathlib.Core.Bool.{Bool, true, false, true≢false}
 use mathlib.Core.List.{List, [], _∷_, _++_}
+use mathlib.Core.Logic.{inl, inr}
 use Prim.Native.Nat.{ℕ, _+_}
 use native.Mathlib.Omega.{arith}
 use lib.Dec.{eqb}
 use lib.ListN.{length}
 use Rattle.seqs.specs.Choose.{opposite}
-use Rattle.seqs.specs.Bytes.{Bytes}
-use Rattle.hex.specs.Hex.{bytesOf}
-use Rattle.hex.proofs.Laws.{value-small}
 use Rattle.paper.specs.declared.Registers.{Registers}
 use Rattle.paper.specs.Strings.{Dig, Str}
 use Rattle.paper.specs.Requests as Q
-use Rattle.paper.specs.Requests.{Request, kindOf, requestOf}
+use Rattle.paper.specs.Requests.{Request}
 use Rattle.paper.specs.Refusals.{top, needs, Verdict, refused, passed, judge}
-use Rattle.paper.specs.Answers.{none′, rooted, raised, answer}
+use Rattle.paper.specs.Answers.{rooted, raised, answer}
 use Rattle.paper.specs.Module.{Told, told}
-use Rattle.paper.proofs.Early.{late, numbered-late}
+use Rattle.paper.proofs.Early.{late}
 use Rattle.runs.specs.Run.{Turn, Reading, ofRuns, World, toldAt, landed, next, after}
 use Rattle.runs.specs.Safety.{Untouched}
-use Rattle.runs.proofs.Accepted.{opposite-false, NoneFails, none-fails, accepted-passed}
-use Rattle.runs.proofs.Lines.{Sorted, early, on-time, sorted}
-use Rattle.runs.proofs.Widths.{Is32, Small, Wide, wide}
-use Rattle.runs.proofs.Formed.{Well, well-append, below-top, answered, closed-forms, well-formed}
+use Rattle.runs.proofs.Accepted.{opposite-false, NoneFails}
+use Rattle.runs.proofs.Lines.{asked, kindIn, Sorted, refusal, acceptance, sorted}
+use Rattle.runs.proofs.Widths.{Is32, Small, Wide}
+use Rattle.runs.proofs.Formed.{Well, well-append, below-top, closed-forms, well-formed}
 use Rattle.runs.proofs.Book.{entered-none}
-
--- two digits make a byte
-pub line-bytes : (l : List ℕ) → Bytes (bytesOf l)
-line-bytes [] = tt
-line-bytes (a ∷ []) = tt
-line-bytes (a ∷ b ∷ l) = (omega (arith, value-small a, value-small b), line-bytes l)
-
-abbrev pub asked : Turn → Request
-asked t = requestOf (bytesOf (t .line))
 
 module _ (D : List ℕ → Dig) (D32 : (l : List ℕ) → length (D l) ≡ 32) where
   -- ── the registers after an accepted line ──
@@ -83,22 +72,21 @@ module _ (D : List ℕ → Dig) (D32 : (l : List ℕ) → length (D l) ≡ 32) w
     pub closed : w .registers .opened ≡ false → Untouched D secret w
 
   -- a refused line
-  refused-side : (by : Reading) (k : Dig) (w : World) (a : Told) → a .after ≡ w .registers → a .effect ≡ none′ → Well (a .formed)
-      → (w .registers .opened ≡ false → a .formed ≡ []) → Side k w → Side k (landed D by w a)
-  refused-side by k w a e f h n v =
+  refused-side : (by : Reading) (k : Dig) (w : World) (kind : ℕ) (q : Request) (n : ℕ) (fs : List Str) → Well fs
+      → (w .registers .opened ≡ false → fs ≡ []) → Side k w → Side k (landed D by w (told D (w .registers) kind q (refused n fs)))
+  refused-side by k w kind q n fs h none v =
       record {
-        small = rw e (v .small);
-        keyed = rw e (v .keyed);
-        well = well-append (a .formed) (w .formed) h (v .well);
+        small = v .small;
+        keyed = v .keyed;
+        well = well-append fs (w .formed) h (v .well);
         closed = λ o.
-            let o′ = ap (λ (r : Registers). r .opened) (sym e) ∙ o in
-            let u = v .closed o′ in
+            let u = v .closed o in
             record {
-              registers = e ∙ u .registers;
-              formed = rw (n o′, u .formed) refl;
-              issued = rw (f, u .issued) (entered-none by []);
-              listed = rw f (u .listed);
-              changed = rw f (u .changed);
+              registers = u .registers;
+              formed = rw (none o, u .formed) refl;
+              issued = rw (u .issued) (entered-none by []);
+              listed = u .listed;
+              changed = u .changed;
             };
       }
 
@@ -117,42 +105,38 @@ module _ (D : List ℕ → Dig) (D32 : (l : List ℕ) → length (D l) ≡ 32) w
         closed = λ o. absurd (true≢false (sym (l .opened) ∙ o));
       }
 
-  -- ── a line that is read ──
-
-  read-side : (by : Reading) (k : Dig) (w : World) (kind : ℕ) (q : Request) → Wide q → Side k w
-      → Side k (landed D by w (answered D D32 (w .registers) kind q))
-  read-side by k w kind q h v =
-      by-verdict (judge late [] (needs D s q)) refl (by-open (s .opened) refl) (closed-forms D D32 s kind q (v .small) h)
-    where
-      s : Registers
-      s = w .registers
-
-      by-open : (b : Bool) → w .registers .opened ≡ b → Well (answered D D32 (w .registers) kind q .formed)
-      by-open true o = well-formed D D32 (w .registers) kind q (v .small) (v .keyed o) h
-      by-open false o = subst Well (sym (closed-forms D D32 (w .registers) kind q (v .small) h o)) tt
-
-      by-verdict : (u : Verdict) → judge late [] (needs D (w .registers) q) ≡ u → Well (told D (w .registers) kind q u .formed)
-          → (w .registers .opened ≡ false → told D (w .registers) kind q u .formed ≡ []) → Side k
-          (landed D by w (told D (w .registers) kind q u))
-      by-verdict (refused n fs) e f o = refused-side by k w (told D (w .registers) kind q (refused n fs)) refl refl f o v
-      by-verdict (passed fs) e f o =
-          let r = ap (λ (u : Verdict). told D (w .registers) kind q u .refusal) e in
-          let p = accepted-passed D (w .registers) kind q late (needs D (w .registers) q) refl r in
-          accepted-side by k w kind q fs (none-fails late (needs D (w .registers) q) p (numbered-late D (w .registers) q)) h f v
-
   -- ── any line ──
+
+  -- the strings of a line that is read and comes to the verdict u
+  module _ (s : Registers) (small : Small (s .counter .0)) (keyed : Keyed s) (kind : ℕ) (q : Request) (h : Wide q) where
+    abbrev NoneIfShut : Told → Type 0
+    NoneIfShut a = s .opened ≡ false → a .formed ≡ []
+
+    read-shut : (u : Verdict) → judge late [] (needs D s q) ≡ u → NoneIfShut (told D s kind q u)
+    read-shut u e = subst (λ (v : Verdict). NoneIfShut (told D s kind q v)) e (closed-forms D D32 s kind q small h)
+
+    read-well : (u : Verdict) → judge late [] (needs D s q) ≡ u → Well (told D s kind q u .formed)
+    read-well u e = by-open (s .opened) refl
+      where
+        by-open : (b : Bool) → s .opened ≡ b → Well (told D s kind q u .formed)
+        by-open true o = subst (λ (v : Verdict). Well (told D s kind q v .formed)) e (well-formed D D32 s kind q small (keyed o) h)
+        by-open false o = subst Well (sym (read-shut u e o)) tt
 
   line-side : (by : Reading) (k : Dig) (w : World) (t : Turn) → Side k w → Side k (next D by w t)
   line-side by k w t v = by-sort (sorted D (w .registers) (t .line) (t .space))
     where
       by-sort : Sorted D (w .registers) (t .line) (t .space) → Side k (landed D by w (toldAt D w t))
-      by-sort (early n z e) =
-          let a = told D (w .registers) (kindOf (bytesOf (t .line))) (asked t) (refused n []) in
-          subst (λ (x : Told). Side k (landed D by w x)) (sym e) (refused-side by k w a refl refl tt (λ o. refl) v)
-      by-sort (on-time h i j l e) =
-          let f = bytesOf (t .line) in
+      by-sort (refusal n fs z e (inl p)) =
           subst (λ (x : Told). Side k (landed D by w x)) (sym e)
-          (read-side by k w (kindOf f) (asked t) (wide f (line-bytes (t .line)) j l) v)
+          (refused-side by k w (kindIn t) (asked t) n fs (rw p tt) (λ o. p) v)
+      by-sort (refusal n fs z e (inr r)) =
+          let well = read-well (w .registers) (v .small) (v .keyed) (kindIn t) (asked t) (r .0) (refused n fs) (r .1) in
+          let shut = read-shut (w .registers) (v .small) (v .keyed) (kindIn t) (asked t) (r .0) (refused n fs) (r .1) in
+          subst (λ (x : Told). Side k (landed D by w x)) (sym e)
+          (refused-side by k w (kindIn t) (asked t) n fs well shut v)
+      by-sort (acceptance fs e h j n i) =
+          let well = read-well (w .registers) (v .small) (v .keyed) (kindIn t) (asked t) h (passed fs) j in
+          subst (λ (x : Told). Side k (landed D by w x)) (sym e) (accepted-side by k w (kindIn t) (asked t) fs n h well v)
 
   -- ── a run ──
 
