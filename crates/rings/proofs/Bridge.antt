@@ -34,10 +34,10 @@ zeros (suc n) (a ∷ l) e h =
 pub zero-is-nought : (a : Dig) → length a ≡ 32 → allZero a ≡ true → a ≡ nought
 zero-is-nought a e h = zeros 32 a e h
 
-pub nought-is-zero : (a : Dig) → a ≡ nought → allZero a ≡ true
+nought-is-zero : (a : Dig) → a ≡ nought → allZero a ≡ true
 nought-is-zero a e = ap allZero e
 
-pub other-than-nought : (a : Dig) → length a ≡ 32 → a ≢ nought → allZero a ≡ false
+other-than-nought : (a : Dig) → length a ≡ 32 → a ≢ nought → allZero a ≡ false
 other-than-nought a e n = go (allZero a) refl
   where
     go : (b : Bool) → allZero a ≡ b → allZero a ≡ false
@@ -122,7 +122,7 @@ module _ (D : List ℕ → Dig) where
         pick-32 (allZero v) u (pick (allZero u) v (digest D (node u v))) h
         (pick-32 (allZero u) v (digest D (node u v)) k (D32 (enc (node u v))))
 
-    pub hash-32 : (T : Tree) → length (hashOf D T) ≡ 32
+    hash-32 : (T : Tree) → length (hashOf D T) ≡ 32
     hash-32 empty = refl
     hash-32 (tip (points a b w)) = D32 _
     hash-32 (branch l r) = parent-32 (hashOf D l) (hashOf D r) (hash-32 l) (hash-32 r)

@@ -28,7 +28,7 @@ module _ {R : Type 0} where
 
   -- ── above a number ──
 
-  pub ascending-from : {b c : ℕ} (l : List (Item R)) → c ≤ b → Ascending b l → Ascending c l
+  ascending-from : {b c : ℕ} (l : List (Item R)) → c ≤ b → Ascending b l → Ascending c l
   ascending-from [] h g = tt
   ascending-from (item a r ∷ l) h g = (omega arith, g .1)
 

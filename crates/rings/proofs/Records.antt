@@ -19,7 +19,7 @@ module _ (D : Str → Dig) where
   unfolding hashRecord
   hash-empty = refl
 
-  pub hash-recorded : (r : Record) → r .revision .0 ≢ 0 → hashRecord r ≡ D (entry r)
+  hash-recorded : (r : Record) → r .revision .0 ≢ 0 → hashRecord r ≡ D (entry r)
   unfolding hashRecord
   hash-recorded r n = rw (ne-eqb (r .revision .0) 0 n) refl
 

@@ -17,11 +17,11 @@ use Rattle.rings.proofs.Gaps.{Gap, between, beyond, before}
 use Rattle.rings.proofs.Ring.{bounds, unlisted-in, rewrap}
 
 -- The leaves L with item q are the leaves M without it, but for (A, q, w) and (q, B, v) in the place of (A, B, w); counted at x.
-abbrev pub Bypass : (q A B : ℕ) (w v : Dig) (x : Leaf) (L M : List Leaf) → Type 0
+abbrev Bypass : (q A B : ℕ) (w v : Dig) (x : Leaf) (L M : List Leaf) → Type 0
 Bypass q A B w v x L M = count x L + one x (points A B w) ≡ count x M + one x (points A q w) + one x (points q B v)
 
 -- The leaves L are the leaves M, but for (A, B, w′) in the place of (A, B, w).
-abbrev pub Rehash : (A B : ℕ) (w w′ : Dig) (x : Leaf) (L M : List Leaf) → Type 0
+abbrev Rehash : (A B : ℕ) (w w′ : Dig) (x : Leaf) (L M : List Leaf) → Type 0
 Rehash A B w w′ x L M = count x L + one x (points A B w) ≡ count x M + one x (points A B w′)
 
 module _ {R : Type 0} (h : R → Dig) where

@@ -18,7 +18,7 @@ use Rattle.rings.proofs.Memos.{StandsFor}
 use Rattle.rings.proofs.ListKinds.{leaf-record}
 
 module _ (D : Str → Dig) where
-  pub same-leaves : {F : List Str} (T U : Tree) → hash D T ≡ hash D U → TreeIn D F T → TreeIn D F U
+  same-leaves : {F : List Str} (T U : Tree) → hash D T ≡ hash D U → TreeIn D F T → TreeIn D F U
       → Fault D F ⊎ Permuted (leaves T) (leaves U)
   same-leaves empty U e i j = do
     n ← no-leaf D U (sym e) j

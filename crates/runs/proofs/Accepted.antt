@@ -88,7 +88,7 @@ all-pass (n ∷ ns) cs h = (applies-not n cs h, all-pass ns cs h)
 -- ── accepted ──
 
 -- numbers that are no sign of acceptance
-abbrev pub nonzero : List ℕ → Bool
+abbrev nonzero : List ℕ → Bool
 nonzero [] = true
 nonzero (n ∷ ns) = both (opposite (eqb n 0)) (nonzero ns)
 

@@ -88,7 +88,7 @@ module _ {D : List ℕ → Dig} (DD : (l : List ℕ) → IsDigest (D l)) where
   unfolding recordHash
   record-digest r = pick-digest (blank r) nought (digest D (entry r)) nought-digest (DD (enc (entry r)))
 
-  pub parent-digest : (u v : Dig) → IsDigest u → IsDigest v → IsDigest (H D u v)
+  parent-digest : (u v : Dig) → IsDigest u → IsDigest v → IsDigest (H D u v)
   unfolding H
   parent-digest u v h k =
       pick-digest (allZero v) u (pick (allZero u) v (digest D (node u v))) h

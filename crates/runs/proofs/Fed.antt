@@ -33,7 +33,7 @@ module _ (D : List ℕ → Dig) where
   abbrev pub run : World → List Request → World
   run w qs = fed D w (turnsOf qs)
 
-  abbrev pub Fair : World → List Request → Type 0
+  abbrev Fair : World → List Request → Type 0
   Fair w qs = Honest D w (turnsOf qs)
 
   -- honest lines that lead from one world to another

@@ -123,7 +123,7 @@ module _ (D : List ℕ → Dig) (D32 : (l : List ℕ) → length (D l) ≡ 32) w
   -- ── what a line's request comes to ──
 
   -- the answer to a request whose line is read
-  abbrev pub answered : Registers → (kind : ℕ) → Request → Told
+  abbrev answered : Registers → (kind : ℕ) → Request → Told
   answered s kind q = told D s kind q (judge late [] (needs D s q))
 
   -- Where no string is formed: an opening, and a set at the counter's top.

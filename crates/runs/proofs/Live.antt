@@ -26,7 +26,6 @@ use Rattle.runs.proofs.Parts.{bytes-append}
 use Rattle.runs.proofs.Sizes.{decent}
 use Rattle.runs.proofs.Sides.{side}
 use Rattle.runs.proofs.Runs.{run, stands-of}
-use Rattle.runs.proofs.Fed as Fed
 use Rattle.runs.proofs.Fed.{Brings}
 use Rattle.runs.proofs.Standing.{Ground}
 use Rattle.runs.proofs.SetClear.{set-brings, clear-brings}

@@ -19,7 +19,7 @@ abbrev beside : Level → Tree → Tree
 beside (onLeft S) X = branch S X
 beside (onRight S) X = branch X S
 
-abbrev pub plug : Way → Tree → Tree
+abbrev plug : Way → Tree → Tree
 plug [] X = X
 plug (v ∷ p) X = plug p (beside v X)
 
@@ -128,7 +128,7 @@ count-plug z (onLeft S ∷ p) X = omega (arith, count-plug z p (branch S X), cou
 count-plug z (onRight S ∷ p) X = omega (arith, count-plug z p (branch X S), count-append z (leaves X) (leaves S))
 
 -- beside a fork
-abbrev pub aroundTwo : Leaf → Fork → ℕ
+abbrev aroundTwo : Leaf → Fork → ℕ
 aroundTwo z f = around z (f .left) + around z (f .right) + around z (f .above)
 
 pub count-two : (z : Leaf) (f : Fork) (X Y : Tree)

@@ -133,7 +133,7 @@ module _ {D : List ℕ → Dig} {w : World} {T : Tree} (g : Ground D w T) where
     pub apart : itemOf (found (leadsTo A) T) ≢ A
     pub gap : inGap A (itemOf (found (leadsTo A) T)) (nextOf (found (isOf A) T)) ≡ true
 
-  pub linked : (A : ℕ) → Near A (recordHash D clearedRecord) (ring (recordHash D) (w .items)) → Linked A
+  linked : (A : ℕ) → Near A (recordHash D clearedRecord) (ring (recordHash D) (w .items)) → Linked A
   linked A n =
       let hx = spot-by g (leadsTo A) (points (n .a) A (n .w)) (eq-eqb A A refl) (n .on) in
       let hz = spot-by g (isOf A) (points A (n .b) (recordHash D clearedRecord)) (eq-eqb A A refl) (n .next) in

@@ -8,7 +8,6 @@ use lib.ListN.{length}
 use Rattle.sha256.specs.Hash.{sha256}
 use Rattle.sha256.proofs.Digests.{sha256-length}
 use Rattle.paper.specs.Strings.{Dig, Str, digest}
-use Rattle.paper.specs.Requests as Q
 use Rattle.paper.specs.Requests.{Request}
 use Rattle.paper.specs.Refusals.{refused}
 use Rattle.paper.specs.Answers.{answer}
@@ -73,7 +72,7 @@ module _ (D : List ℕ → Dig) (D32 : (l : List ℕ) → length (D l) ≡ 32) w
 
   -- ── the run ──
 
-  pub core-start : (k : Dig) → Core D D32 (start D k)
+  core-start : (k : Dig) → Core D D32 (start D k)
   core-start k =
       record {
         tree = empty;

@@ -119,7 +119,8 @@ module _ (D : List ℕ → Dig) (D32 : (l : List ℕ) → length (D l) ≡ 32) w
     read-well u e = by-open (s .opened) refl
       where
         by-open : (b : Bool) → s .opened ≡ b → Well (told D s kind q u .formed)
-        by-open true o = subst (λ (v : Verdict). Well (told D s kind q v .formed)) e (well-formed D D32 s kind q small (keyed o) h)
+        by-open true o =
+            subst (λ (v : Verdict). Well (told D s kind q v .formed)) e (well-formed D D32 s kind q small (keyed o) h)
         by-open false o = subst Well (sym (read-shut u e o)) tt
 
   line-side : (by : Reading) (k : Dig) (w : World) (t : Turn) → Side k w → Side k (next D by w t)
