@@ -51,22 +51,14 @@ module _ (D : List ℕ → Dig) (D32 : (l : List ℕ) → length (D l) ≡ 32) (
       → MeansU2 digestD F (digestD (leaf A A′ ω)) (digestD (leaf A′ B′ nought)) y (digestD (leaf A B′ ω)) nought y′
       ⊎ MeansU2 digestD F (digestD (leaf A′ B′ nought)) (digestD (leaf A A′ ω)) y nought (digestD (leaf A B′ ω)) y′
       → MeansEI digestD F y y′ (removal A′ ∷ [])
-  place {y} {y′} A A′ B′ ω k i u = by-order u
-    where
-      formed : R.Placed digestD F A A′ B′ ω
-      formed =
-          record {
-            gap = gap-holds A′ A B′ k;
-            to-it = i _ (List·Memᴰ·head refl);
-            from-it = i _ (List·Memᴰ·tail (List·Memᴰ·tail (List·Memᴰ·head refl)));
-            without = i _ (List·Memᴰ·tail (List·Memᴰ·head refl));
-          }
-
-      by-order : MeansU2 digestD F (digestD (leaf A A′ ω)) (digestD (leaf A′ B′ nought)) y (digestD (leaf A B′ ω)) nought y′
-          ⊎ MeansU2 digestD F (digestD (leaf A′ B′ nought)) (digestD (leaf A A′ ω)) y nought (digestD (leaf A B′ ω)) y′
-          → MeansEI digestD F y y′ (removal A′ ∷ [])
-      by-order (inl u) = R.place digestD A A′ B′ ω formed u
-      by-order (inr u) = R.place-flipped digestD A A′ B′ ω formed u
+  place A A′ B′ ω k i u =
+      let formed : R.Placed digestD F A A′ B′ ω = record {
+        gap = gap-holds A′ A B′ k;
+        to-it = i _ (List·Memᴰ·head refl);
+        from-it = i _ (List·Memᴰ·tail (List·Memᴰ·tail (List·Memᴰ·head refl)));
+        without = i _ (List·Memᴰ·tail (List·Memᴰ·head refl));
+      } in
+      elim u [ inl v ↦ R.place digestD A A′ B′ ω formed v | inr v ↦ R.place-flipped digestD A A′ B′ ω formed v ]
 
   -- 0b adopt: what its memorandum stands for is done, and was legal
   pub adopt : {y y′ : Dig} {c : List Step} (T : Tree) (ls : List (Item Record)) → MeansEI digestD F y y′ c → hashOf D T ≡ y

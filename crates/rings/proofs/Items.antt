@@ -38,11 +38,11 @@ module _ {R : Type 0} where
 
   pub listed-above : (b q : ℕ) (r : R) (l : List (Item R)) → Ascending b l → Listed q r l → b < q
   listed-above b q r [] g m = elim m [ ]
-  listed-above b q r (item a s ∷ l) g m = go (List·Memᴰ·cases-cons m) (λ k. listed-above a q r l (g .1) k)
-    where
-      go : (item q r ≡ item a s) ⊎ Listed q r l → (Listed q r l → a < q) → b < q
-      go (inl e) f = let p : q ≡ a = cc in omega (arith, g .0)
-      go (inr k) f = omega (arith, g .0, f k)
+  listed-above b q r (item a s ∷ l) g m =
+      elim (List·Memᴰ·cases-cons m) [
+        inl e ↦ (let p : q ≡ a = cc in omega (arith, g .0))
+        | inr k ↦ omega (arith, g .0, listed-above a q r l (g .1) k)
+      ]
 
   -- a number is listed or it is not
   pub listed? : (q : ℕ) (l : List (Item R)) → Unlisted q l ⊎ ((r : R) × Listed q r l)
@@ -128,11 +128,8 @@ module _ {R : Type 0} where
 
   -- an item above d is not the one of number d
   past-head : (d : ℕ) (z : R) (m : List (Item R)) (q : ℕ) (t : R) → d < q → Listed q t (item d z ∷ m) → Listed q t m
-  past-head d z m q t h i = go (List·Memᴰ·cases-cons i)
-    where
-      go : (item q t ≡ item d z) ⊎ Listed q t m → Listed q t m
-      go (inl p) = let w : q ≡ d = cc in absurd (omega arith)
-      go (inr j) = j
+  past-head d z m q t h i =
+      elim (List·Memᴰ·cases-cons i) [ inl p ↦ (let w : q ≡ d = cc in absurd (omega arith)) | inr j ↦ j ]
 
   pub same-items : (b : ℕ) (l m : List (Item R)) → Ascending b l → Ascending b m → Into l m → Into m l → l ≡ m
   same-items b [] [] g k f h = refl

@@ -19,12 +19,11 @@ module _ {R : Type 0} (h : R → Dig) where
       let e = count-single _ _ m in
       let p : A ≡ a = cc in
       (omega arith, inr (cc))
-  bounds A B w a r (item b s ∷ l) z g m = go (count-cases _ _ _ m) (λ k. bounds A B w b s l z (g .1) k)
-    where
-      go : (points A B w ≡ points a b (h r)) ⊎ (0 < count (points A B w) (chainOf h b s l z))
-          → (0 < count (points A B w) (chainOf h b s l z) → (b ≤ A) × ((A < B) ⊎ (B ≡ z))) → (a ≤ A) × ((A < B) ⊎ (B ≡ z))
-      go (inl e) f = let p : A ≡ a = cc in let q : B ≡ b = cc in (omega arith, inl (omega (arith, g .0)))
-      go (inr k) f = (omega (arith, f k .0, g .0), f k .1)
+  bounds A B w a r (item b s ∷ l) z g m =
+      elim (count-cases _ _ _ m) [
+        inl e ↦ (let p : A ≡ a = cc in let q : B ≡ b = cc in (omega arith, inl (omega (arith, g .0))))
+        | inr k ↦ (let t = bounds A B w b s l z (g .1) k in (omega (arith, t .0, g .0), t .1))
+      ]
 
   -- the item that it stands for
   held : (A B : ℕ) (w : Dig) (a : ℕ) (r : R) (l : List (Item R)) (z : ℕ) → 0 < count (points A B w) (chainOf h a r l z)
