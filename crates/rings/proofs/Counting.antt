@@ -62,8 +62,4 @@ count-tail x y l h = omega (arith, count-cons x y l)
 -- a leaf that occurs is in the list
 pub occurs : (x : Leaf) (l : List Leaf) → 0 < count x l → List·Memᴰ x l
 occurs x [] h = absurd (omega (arith, count-nil x))
-occurs x (y ∷ l) h = here (count-cases x y l h) (occurs x l)
-  where
-    here : (x ≡ y) ⊎ (0 < count x l) → (0 < count x l → List·Memᴰ x l) → List·Memᴰ x (y ∷ l)
-    here (inl e) f = List·Memᴰ·head e
-    here (inr k) f = List·Memᴰ·tail (f k)
+occurs x (y ∷ l) h = elim (count-cases x y l h) [ inl e ↦ List·Memᴰ·head e | inr k ↦ List·Memᴰ·tail (occurs x l k) ]

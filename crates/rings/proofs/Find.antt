@@ -55,18 +55,13 @@ module _ {R : Type 0} (h : R → Dig) where
 
   item-chain : (q : ℕ) (s : R) (a : ℕ) (r : R) (l : List (Item R)) (z : ℕ) → Listed q s (item a r ∷ l)
       → (c : ℕ) × (0 < count (points q c (h s)) (chainOf h a r l z))
-  item-chain q s a r [] z m = go (List·Memᴰ·cases-cons m)
-    where
-      go : (item q s ≡ item a r) ⊎ Listed q s [] → (c : ℕ) × (0 < count (points q c (h s)) (points a z (h r) ∷ []))
-      go (inl e) = (z, count-head _ _ _ (cc))
-      go (inr k) = elim k [ ]
-  item-chain q s a r (item b t ∷ l) z m = go (List·Memᴰ·cases-cons m) (item-chain q s b t l z)
-    where
-      go : (item q s ≡ item a r) ⊎ Listed q s (item b t ∷ l)
-          → (Listed q s (item b t ∷ l) → (c : ℕ) × (0 < count (points q c (h s)) (chainOf h b t l z)))
-          → (c : ℕ) × (0 < count (points q c (h s)) (points a b (h r) ∷ chainOf h b t l z))
-      go (inl e) f = (b, count-head _ _ _ (cc))
-      go (inr k) f = let u = f k in (u .0, count-tail _ _ _ (u .1))
+  item-chain q s a r [] z m =
+      elim (List·Memᴰ·cases-cons m) [ inl e ↦ (z, count-head _ _ _ (cc)) | inr k ↦ elim k [ ] ]
+  item-chain q s a r (item b t ∷ l) z m =
+      elim (List·Memᴰ·cases-cons m) [
+        | inl e ↦ (b, count-head _ _ _ (cc))
+        | inr k ↦ (let u = item-chain q s b t l z k in (u .0, count-tail _ _ _ (u .1)))
+      ]
 
   pub item-leaf : (q : ℕ) (s : R) (ls : List (Item R)) → Listed q s ls
       → (c : ℕ) × (0 < count (points q c (h s)) (ring h ls))
@@ -129,7 +124,10 @@ module _ {R : Type 0} (h : R → Dig) where
       → Near q (h s) (chainOf h a r l z)
   near-chain q s a r [] z hz g m = elim m [ ]
   near-chain q s a r (item b t ∷ l) z hz g m =
-      go (List·Memᴰ·cases-cons m) (λ k. near-chain q s b t l z (omega (arith, g .0)) (g .1) k)
+      elim (List·Memᴰ·cases-cons m) [
+        | inl e ↦ here l (g .1) e
+        | inr k ↦ near-behind _ (near-chain q s b t l z (omega (arith, g .0)) (g .1) k)
+      ]
     where
       here : (l : List (Item R)) → Ascending b l → item q s ≡ item b t
           → Near q (h s) (points a b (h r) ∷ chainOf h b t l z)
@@ -153,11 +151,6 @@ module _ {R : Type 0} (h : R → Dig) where
             on = count-head _ _ _ (cc);
             next = count-tail _ _ _ (count-head _ _ _ (cc));
           }
-
-      go : (item q s ≡ item b t) ⊎ Listed q s l → (Listed q s l → Near q (h s) (chainOf h b t l z))
-          → Near q (h s) (points a b (h r) ∷ chainOf h b t l z)
-      go (inl e) f = here l (g .1) e
-      go (inr k) f = near-behind _ (f k)
 
   pub near : (q : ℕ) (s : R) (a : ℕ) (r : R) (b : ℕ) (t : R) (l : List (Item R)) → Ascending 0 (item a r ∷ item b t ∷ l)
       → Listed q s (item a r ∷ item b t ∷ l) → Near q (h s) (ring h (item a r ∷ item b t ∷ l))

@@ -40,20 +40,18 @@ module _ {R : Type 0} where
   listed-above b q r [] g m = elim m [ ]
   listed-above b q r (item a s ∷ l) g m =
       elim (List·Memᴰ·cases-cons m) [
-        inl e ↦ (let p : q ≡ a = cc in omega (arith, g .0))
+        | inl e ↦ (let p : q ≡ a = cc in omega (arith, g .0))
         | inr k ↦ omega (arith, g .0, listed-above a q r l (g .1) k)
       ]
 
   -- a number is listed or it is not
   pub listed? : (q : ℕ) (l : List (Item R)) → Unlisted q l ⊎ ((r : R) × Listed q r l)
   listed? q [] = inl tt
-  listed? q (item a r ∷ l) = go (ℕ-discrete q a) (listed? q l)
-    where
-      go : Dec (q ≡ a) → Unlisted q l ⊎ ((s : R) × Listed q s l)
-          → Unlisted q (item a r ∷ l) ⊎ ((s : R) × Listed q s (item a r ∷ l))
-      go (yes e) t = inr (r, List·Memᴰ·head {x = item a r} (cc))
-      go (no n) (inl f) = inl (n, f)
-      go (no n) (inr t) = inr (t .0, List·Memᴰ·tail (t .1))
+  listed? q (item a r ∷ l) =
+      elim (ℕ-discrete q a) [
+        | yes e ↦ inr (r, List·Memᴰ·head {x = item a r} (cc))
+        | no n ↦ elim (listed? q l) [ inl f ↦ inl (n, f) | inr t ↦ inr (t .0, List·Memᴰ·tail (t .1)) ]
+      ]
 
   -- ── insert ──
 

@@ -98,11 +98,7 @@ module _ (D : Str → Dig) where
     vanishes : (s : Str) → s ∈ F → D s ≡ nought → Fault F
 
   pub same-string : {F : List Str} {s t : Str} → s ∈ F → t ∈ F → D s ≡ D t → Fault F ⊎ (s ≡ t)
-  same-string {F} {s} {t} i j e = go (Str-discrete s t)
-    where
-      go : Dec (s ≡ t) → Fault F ⊎ (s ≡ t)
-      go (yes p) = inr p
-      go (no n) = inl (collides s t i j n e)
+  same-string {F} {s} {t} i j e = elim (Str-discrete s t) [ yes p ↦ inr p | no n ↦ inl (collides s t i j n e) ]
 
   -- a tree that hashes to 0 has no leaves
   pub no-leaf : {F : List Str} (T : Tree) → hash T ≡ nought → TreeIn F T → Fault F ⊎ (leaves T ≡ [])

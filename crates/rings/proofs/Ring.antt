@@ -21,7 +21,7 @@ module _ {R : Type 0} (h : R → Dig) where
       (omega arith, inr (cc))
   bounds A B w a r (item b s ∷ l) z g m =
       elim (count-cases _ _ _ m) [
-        inl e ↦ (let p : A ≡ a = cc in let q : B ≡ b = cc in (omega arith, inl (omega (arith, g .0))))
+        | inl e ↦ (let p : A ≡ a = cc in let q : B ≡ b = cc in (omega arith, inl (omega (arith, g .0))))
         | inr k ↦ (let t = bounds A B w b s l z (g .1) k in (omega (arith, t .0, g .0), t .1))
       ]
 
@@ -32,13 +32,11 @@ module _ {R : Type 0} (h : R → Dig) where
       let e = count-single _ _ m in
       let p : A ≡ a = cc in
       (r, List·Memᴰ·head {x = item a r} (cc), cc)
-  held A B w a r (item b s ∷ l) z m = go (count-cases _ _ _ m) (λ k. held A B w b s l z k)
-    where
-      go : (points A B w ≡ points a b (h r)) ⊎ (0 < count (points A B w) (chainOf h b s l z))
-          → (0 < count (points A B w) (chainOf h b s l z) → (s′ : R) × Listed A s′ (item b s ∷ l) × (h s′ ≡ w))
-          → (s′ : R) × Listed A s′ (item a r ∷ item b s ∷ l) × (h s′ ≡ w)
-      go (inl e) f = let p : A ≡ a = cc in (r, List·Memᴰ·head {x = item a r} (cc), cc)
-      go (inr k) f = let t = f k in (t .0, List·Memᴰ·tail (t .1), t .2)
+  held A B w a r (item b s ∷ l) z m =
+      elim (count-cases _ _ _ m) [
+        | inl e ↦ (let p : A ≡ a = cc in (r, List·Memᴰ·head {x = item a r} (cc), cc))
+        | inr k ↦ (let t = held A B w b s l z k in (t .0, List·Memᴰ·tail (t .1), t .2))
+      ]
 
   pub leaf-item : (A B : ℕ) (w : Dig) (ls : List (Item R)) → 0 < count (points A B w) (ring h ls)
       → (s : R) × Listed A s ls × (h s ≡ w)
@@ -58,7 +56,14 @@ module _ {R : Type 0} (h : R → Dig) where
       go (beyond u v) p = omega arith
       go (before u v t) p = omega arith
   unlisted-in q A B w a r (item b s ∷ l) z hz g k m =
-      go (count-cases _ _ _ m) (λ t. unlisted-in q A B w b s l z (omega (arith, g .0)) (g .1) k t)
+      elim (count-cases _ _ _ m) [
+        | inl e ↦ (
+            let u = here k (cc) (cc) in
+            (u .0, (omega (arith, u .1), unlisted-below b q l (omega (arith, u .1)) (g .1))))
+        | inr t ↦ (
+            let v = bounds A B w b s l z (g .1) t in
+            (later k (v .0) (v .1), unlisted-in q A B w b s l z (omega (arith, g .0)) (g .1) k t))
+      ]
     where
       here : Gap A B q → A ≡ a → B ≡ b → (q ≢ a) × (q < b)
       here (between u v) p p′ = (omega arith, omega arith)
@@ -70,15 +75,6 @@ module _ {R : Type 0} (h : R → Dig) where
       later (beyond u v) p p′ = omega (arith, g .0)
       later (before u v t) p (inl x) = absurd (omega arith)
       later (before u v t) p (inr x) = omega (arith, g .0)
-
-      go : (points A B w ≡ points a b (h r)) ⊎ (0 < count (points A B w) (chainOf h b s l z))
-          → (0 < count (points A B w) (chainOf h b s l z) → Unlisted q (item b s ∷ l)) → Unlisted q (item a r ∷ item b s ∷ l)
-      go (inl e) f =
-          let u = here k (cc) (cc) in
-          (u .0, (omega (arith, u .1), unlisted-below b q l (omega (arith, u .1)) (g .1)))
-      go (inr t) f =
-          let v = bounds A B w b s l z (g .1) t in
-          (later k (v .0) (v .1), f t)
 
   pub gap-free : (q A B : ℕ) (w : Dig) (ls : List (Item R)) → Ascending 0 ls → Gap A B q → 0 < count (points A B w) (ring h ls)
       → Unlisted q ls
@@ -94,12 +90,7 @@ module _ {R : Type 0} (h : R → Dig) where
       let e′ : points A z′ w ≡ points a z′ (h r) = cc in
       simp (count-cons, count-nil) (omega (arith, ap (one x) e, ap (one x) e′))
   rewrap A w a r (item b s ∷ l) z z′ hz g m x =
-      go (count-cases _ _ _ m) (λ t. rewrap A w b s l z z′ (omega (arith, g .0)) (g .1) t x)
-    where
-      go : (points A z w ≡ points a b (h r)) ⊎ (0 < count (points A z w) (chainOf h b s l z))
-          → (0 < count (points A z w) (chainOf h b s l z)
-          → count x (chainOf h b s l z) + one x (points A z′ w) ≡ count x (chainOf h b s l z′) + one x (points A z w))
-          → count x (points a b (h r) ∷ chainOf h b s l z) + one x (points A z′ w)
-          ≡ count x (points a b (h r) ∷ chainOf h b s l z′) + one x (points A z w)
-      go (inl e) f = let p : z ≡ b = cc in absurd (omega (arith, g .0))
-      go (inr t) f = simp count-cons (omega (arith, f t))
+      elim (count-cases _ _ _ m) [
+        | inl e ↦ (let p : z ≡ b = cc in absurd (omega (arith, g .0)))
+        | inr t ↦ simp count-cons (omega (arith, rewrap A w b s l z z′ (omega (arith, g .0)) (g .1) t x))
+      ]

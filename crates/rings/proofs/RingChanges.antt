@@ -112,14 +112,13 @@ module _ {R : Type 0} (h : R → Dig) where
       let e = count-single _ _ m in
       let e′ : points A B (h r) ≡ points a z (h r) = cc in
       simp (count-cons, count-nil) (omega (arith, ap (one x) e, ap (one x) e′))
-  put-head A B w r a s (item b t ∷ l) z p g m x = go (count-cases _ _ _ m)
-    where
-      go : (points A B w ≡ points a b (h s)) ⊎ (0 < count (points A B w) (chainOf h b t l z))
-          → Rehash A B w (h r) x (points a b (h r) ∷ chainOf h b t l z) (points a b (h s) ∷ chainOf h b t l z)
-      go (inl e) =
-          let e′ : points A B (h r) ≡ points a b (h r) = cc in
-          simp count-cons (omega (arith, ap (one x) e, ap (one x) e′))
-      go (inr u) = absurd (omega (arith, g .0, (bounds h A B w b t l z (g .1) u) .0))
+  put-head A B w r a s (item b t ∷ l) z p g m x =
+      elim (count-cases _ _ _ m) [
+        | inl e ↦ (
+            let e′ : points A B (h r) ≡ points a b (h r) = cc in
+            simp count-cons (omega (arith, ap (one x) e, ap (one x) e′)))
+        | inr u ↦ absurd (omega (arith, g .0, (bounds h A B w b t l z (g .1) u) .0))
+      ]
 
   put-tail : (A B : ℕ) (w : Dig) (r : R) (a : ℕ) (s : R) (l : List (Item R)) (z : ℕ) → A ≢ a → Ascending a l
       → 0 < count (points A B w) (chainOf h a s l z) → (x : Leaf)

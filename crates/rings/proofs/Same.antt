@@ -2,12 +2,11 @@
 use mathlib.Core.Path.{_≡_, refl, sym}
 use mathlib.Core.List.{List, [], _∷_, List·Memᴰ·head, List·Memᴰ·tail, List·Memᴰ·cases-cons}
 use mathlib.Core.Logic.{_⊎_, inl, inr}
-use Prim.Native.Nat.{ℕ}
 use native.Mathlib.Omega.{arith}
 use Rattle.paper.specs.declared.Record.{Record}
 use Rattle.paper.specs.Strings.{Dig, Str}
 use Rattle.rings.specs.Trees.{points, Tree, empty, tip, branch, leaves, Permuted}
-use Rattle.rings.specs.Lists.{Item, item, Listed, ring}
+use Rattle.rings.specs.Lists.{Item, item, ring}
 use Rattle.rings.proofs.Counting.{count-append}
 use Rattle.rings.proofs.Nodes.{hash, TreeIn, Fault, _>>=_, no-leaf, only-leaf}
 use Rattle.rings.proofs.Align.{split}
@@ -42,11 +41,7 @@ module _ (D : Str → Dig) where
     let kr = record-at (Known D F) ls a r k here
     h ← leaf-record D a (i .0) r m kr k′ (omega (arith, f (points a (i .0) (hashRecord D r)), i .1))
     t ← into ls l m k k′ f (λ b q j. s b q (List·Memᴰ·tail j))
-    inr (λ b q j. on b q h t (List·Memᴰ·cases-cons j))
-    where
-      on : (b : ℕ) (q : Record) → Listed a r m → Into l m → (item b q ≡ item a r) ⊎ Listed b q l → Listed b q m
-      on b q h t (inl e) = rw e h
-      on b q h t (inr j) = t b q j
+    inr (λ b q j. elim (List·Memᴰ·cases-cons j) [ inl e ↦ rw e h | inr j ↦ t b q j ])
 
   pub same-list : {F : List Str} (T U : Tree) (l m : List (Item Record)) → hash D T ≡ hash D U → StandsFor D F T l
       → StandsFor D F U m → Fault D F ⊎ (l ≡ m)
