@@ -17,7 +17,7 @@ use Rattle.rings.proofs.Endings.{fault-shows}
 use Rattle.rings.proofs.InPaper.{same-list}
 use Rattle.runs.specs.Run.{Turn, Issue, standsFor, isIssued, issuedBy, toldAt, after}
 use Rattle.runs.specs.Endings.{Ending, collision, zero, forged, earlier}
-use Rattle.runs.specs.Safety.{Safe, SafeOrEnded}
+use Rattle.runs.specs.Safety.{SafeOrEnded}
 use Rattle.runs.specs.Liveness.{turnsFor, LiveOrEnded}
 use Rattle.runs.specs.Also.{onwards, Shown, RootSettlesList, AnyForged, NoOtherWayOut, HonestReplayed, EarliestStays, NotEndedAtFirst, AlsoFor, Also}
 use Rattle.runs.proofs.Formed.{well-at, well-append}
@@ -71,15 +71,8 @@ module _ (D : List ℕ → Dig) where
       later (inr x) = inr (inr x)
 
   no-other-way-out : SafeOrEnded D → NoOtherWayOut D
-  no-other-way-out safe k ts n m = by-safe (safe k ts)
-    where
-      neither : Shown D (after D k ts .formed) ⊎ AnyForged D k ts → ⊥
-      neither (inl x) = n x
-      neither (inr x) = m x
-
-      by-safe : Ending D k ts ⊎ Safe D k ts → Safe D k ts
-      by-safe (inl e) = absurd (neither (ways-out e))
-      by-safe (inr s) = s
+  no-other-way-out safe k ts n m =
+      elim (safe k ts) [ inl e ↦ absurd (elim (ways-out e) [ inl x ↦ n x | inr x ↦ m x ]) | inr s ↦ s ]
 
   -- ── what the earliest line meant ──
 

@@ -12,7 +12,7 @@ use Rattle.paper.specs.Strings.{Dig, Memo, Str, memo, digest}
 use Rattle.paper.specs.Requests.{Request}
 use Rattle.paper.specs.Refusals.{Check, noneFits, tried, needs}
 use Rattle.paper.specs.Answers.{answer}
-use Rattle.rings.proofs.Nodes.{_∈_, Within, Fault, _>>=_}
+use Rattle.rings.proofs.Nodes.{_∈_, Within, Fault, _>>=_, instead}
 use Rattle.rings.proofs.Memos.{Means}
 use Rattle.runs.specs.Run.{World, standsFor, isIssued}
 use Rattle.runs.specs.Endings.{carried}
@@ -66,13 +66,8 @@ module _ (D : List ℕ → Dig) (w : World) where
       -- one that is the digest of a formed string
       taken : (q : Request) (t : Memo) (m : Dig) → List·Memᴰ m (carried q) → memo t key ∈ G → digest D (memo t key) ≡ m
           → Or q (Means (digest D) G t (standsFor m (w .book)))
-      taken q t m c i e = by-book (look D m t key (w .book) b i e)
-        where
-          by-book : (Fault (digest D) G ⊎ (isIssued m (w .book) ≡ false)) ⊎ Means (digest D) G t (standsFor m (w .book))
-              → Or q (Means (digest D) G t (standsFor m (w .book)))
-          by-book (inl (inl f)) = inl (inl f)
-          by-book (inl (inr u)) = inl (inr (m, c, u))
-          by-book (inr a) = inr a
+      taken q t m c i e =
+          instead (λ x. elim x [ inl f ↦ inl f | inr u ↦ inr (m, c, u) ]) (look D m t key (w .book) b i e)
 
       -- one that a check asks to say t
       pub means : (q : Request) (t : Memo) (m : Dig) → List·Memᴰ m (carried q) → memo t key ∈ G

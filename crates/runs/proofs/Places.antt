@@ -49,13 +49,11 @@ module _ (p : Leaf → Bool) where
   pub has-it : (x : Leaf) (T : Tree) → p x ≡ true → 0 < count x (leaves T) → has p T ≡ true
   has-it x empty e h = absurd (omega (arith, count-nil x))
   has-it x (tip y) e h = let q = count-single x y h in ap p (sym q) ∙ e
-  has-it x (branch l r) e h = by-side (decLt 0 (count x (leaves l))) (has-it x l e) (has-it x r e)
-    where
-      by-side : Dec (0 < count x (leaves l)) → (0 < count x (leaves l) → has p l ≡ true)
-          → (0 < count x (leaves r) → has p r ≡ true)
-          → either (has p l) (has p r) ≡ true
-      by-side (yes k) f g = rw (f k) refl
-      by-side (no n) f g = rw (g (omega (arith, count-append x (leaves l) (leaves r))), either-yes) refl
+  has-it x (branch l r) e h =
+      elim (decLt 0 (count x (leaves l))) [
+        | yes k ↦ rw (has-it x l e k) refl
+        | no n ↦ rw (has-it x r e (omega (arith, count-append x (leaves l) (leaves r))), either-yes) refl
+      ]
 
   -- the leaf found passes and occurs, and the tree is that leaf under its way
   pub record Located (T : Tree) : Type 0 where

@@ -66,11 +66,7 @@ module _ (D : List ℕ → Dig) where
       -- a half that does not have y has no leaf
       none-in : (t : Tree) → count y (leaves t) ≡ 0 → ((x : Leaf) → count x (leaves t) ≤ one x y) → (x : Leaf)
           → count x (leaves t) ≡ 0
-      none-in t z most x = by-leaf (decLt 0 (one x y))
-        where
-          by-leaf : Dec (0 < one x y) → count x (leaves t) ≡ 0
-          by-leaf (yes h) = rw (one-same x y h) z
-          by-leaf (no h) = omega (arith, most x)
+      none-in t z most x = elim (decLt 0 (one x y)) [ yes h ↦ rw (one-same x y h) z | no h ↦ omega (arith, most x) ]
 
       by-side : Dec (0 < count y (leaves l)) → (((x : Leaf) → count x (leaves l) ≡ one x y) → hashOf D l ≡ hashOf D (tip y))
           → (((x : Leaf) → count x (leaves r) ≡ one x y) → hashOf D r ≡ hashOf D (tip y))

@@ -31,23 +31,26 @@ Lone of (x ∷ l) = ((y : Leaf) → 0 < count y l → of y ≢ of x) × Lone of 
 -- so its number tells a leaf
 lone-same : (of : Leaf → ℕ) (x y : Leaf) (l : List Leaf) → Lone of l → of x ≡ of y → 0 < count x l → 0 < count y l → x ≡ y
 lone-same of x y [] g e m n = absurd (omega (arith, count-nil x))
-lone-same of x y (z ∷ l) g e m n = by-places (count-cases x z l m) (count-cases y z l n) (lone-same of x y l (g .1) e)
-  where
-    by-places : (x ≡ z) ⊎ (0 < count x l) → (y ≡ z) ⊎ (0 < count y l) → (0 < count x l → 0 < count y l → x ≡ y) → x ≡ y
-    by-places (inl p) (inl q) f = p ∙ sym q
-    by-places (inl p) (inr k) f = absurd (g .0 y k (sym e ∙ ap of p))
-    by-places (inr j) (inl q) f = absurd (g .0 x j (e ∙ ap of q))
-    by-places (inr j) (inr k) f = f j k
+lone-same of x y (z ∷ l) g e m n =
+    elim (count-cases x z l m) [
+      | inl p ↦ elim (count-cases y z l n) [ inl q ↦ p ∙ sym q | inr k ↦ absurd (g .0 y k (sym e ∙ ap of p)) ]
+      | inr j ↦ elim (count-cases y z l n) [
+        | inl q ↦ absurd (g .0 x j (e ∙ ap of q))
+        | inr k ↦ lone-same of x y l (g .1) e j k
+      ]
+    ]
 
 -- and none occurs twice
 lone-once : (of : Leaf → ℕ) (x : Leaf) (l : List Leaf) → Lone of l → count x l ≤ 1
 lone-once of x [] g = omega (arith, count-nil x)
-lone-once of x (z ∷ l) g = by-place (decLt 0 (count x l)) (decLt 0 (one x z)) (lone-once of x l (g .1))
-  where
-    by-place : Dec (0 < count x l) → Dec (0 < one x z) → count x l ≤ 1 → count x (z ∷ l) ≤ 1
-    by-place (no n) d r = omega (arith, count-cons x z l, one-most x z)
-    by-place (yes k) (yes e) r = absurd (g .0 x k (ap of (one-same x z e)))
-    by-place (yes k) (no n) r = omega (arith, count-cons x z l)
+lone-once of x (z ∷ l) g =
+    elim (decLt 0 (count x l)) [
+      | no n ↦ omega (arith, count-cons x z l, one-most x z)
+      | yes k ↦ elim (decLt 0 (one x z)) [
+        | yes e ↦ absurd (g .0 x k (ap of (one-same x z e)))
+        | no n ↦ omega (arith, count-cons x z l, lone-once of x l (g .1))
+      ]
+    ]
 
 module _ {R : Type 0} (h : R → Dig) where
   lone-items : (a : ℕ) (r : R) (l : List (Item R)) (z : ℕ) → Ascending a l → Lone itemOf (chainOf h a r l z)
@@ -62,11 +65,9 @@ module _ {R : Type 0} (h : R → Dig) where
   lone-nexts a r (item b s ∷ l) z hz g = (later, lone-nexts b s l z (omega (arith, g .0)) (g .1))
     where
       later : (y : Leaf) → 0 < count y (chainOf h b s l z) → nextOf y ≢ b
-      later (points A B w) k e = by-bounds (bounds h A B w b s l z (g .1) k)
-        where
-          by-bounds : (b ≤ A) × ((A < B) ⊎ (B ≡ z)) → ⊥
-          by-bounds (c, inl d) = omega arith
-          by-bounds (c, inr d) = omega (arith, g .0)
+      later (points A B w) k e =
+          let v = bounds h A B w b s l z (g .1) k in
+          elim (v .1) [ inl d ↦ omega (arith, v .0) | inr d ↦ omega (arith, v .0, g .0) ]
 
   -- ── leaves of the ring ──
 
@@ -95,22 +96,16 @@ module _ {R : Type 0} (h : R → Dig) where
   next-chain : (A B : ℕ) (w : Dig) (a : ℕ) (r : R) (l : List (Item R)) (z : ℕ) → 0 < count (points A B w) (chainOf h a r l z)
       → (B ≡ z) ⊎ ((s : R) × Listed B s l)
   next-chain A B w a r [] z m = let e = count-single _ _ m in inl (cc)
-  next-chain A B w a r (item b s ∷ l) z m = by-place (count-cases _ _ _ m) (next-chain A B w b s l z)
-    where
-      by-place : (points A B w ≡ points a b (h r)) ⊎ (0 < count (points A B w) (chainOf h b s l z))
-          → (0 < count (points A B w) (chainOf h b s l z) → (B ≡ z) ⊎ ((t : R) × Listed B t l))
-          → (B ≡ z) ⊎ ((t : R) × Listed B t (item b s ∷ l))
-      by-place (inl e) f = inr (s, List·Memᴰ·head {x = item b s} (cc))
-      by-place (inr k) f = later (f k)
-        where
-          later : (B ≡ z) ⊎ ((t : R) × Listed B t l) → (B ≡ z) ⊎ ((t : R) × Listed B t (item b s ∷ l))
-          later (inl e) = inl e
-          later (inr t) = inr (t .0, List·Memᴰ·tail (t .1))
+  next-chain A B w a r (item b s ∷ l) z m =
+      elim (count-cases _ _ _ m) [
+        | inl e ↦ inr (s, List·Memᴰ·head {x = item b s} (cc))
+        | inr k ↦ elim (next-chain A B w b s l z k) [ inl e ↦ inl e | inr t ↦ inr (t .0, List·Memᴰ·tail (t .1)) ]
+      ]
 
   pub leaf-next : (x : Leaf) (ls : List (Item R)) → 0 < count x (ring h ls) → (s : R) × Listed (nextOf x) s ls
   leaf-next x [] m = absurd (omega (arith, count-nil x))
-  leaf-next (points A B w) (item a r ∷ l) m = by-place (next-chain A B w a r l a m)
-    where
-      by-place : (B ≡ a) ⊎ ((s : R) × Listed B s l) → (s : R) × Listed B s (item a r ∷ l)
-      by-place (inl e) = (r, List·Memᴰ·head {x = item a r} (cc))
-      by-place (inr t) = (t .0, List·Memᴰ·tail (t .1))
+  leaf-next (points A B w) (item a r ∷ l) m =
+      elim (next-chain A B w a r l a m) [
+        | inl e ↦ (r, List·Memᴰ·head {x = item a r} (cc))
+        | inr t ↦ (t .0, List·Memᴰ·tail (t .1))
+      ]

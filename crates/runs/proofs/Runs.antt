@@ -14,8 +14,6 @@ use Rattle.paper.specs.Answers.{answer}
 use Rattle.paper.specs.Module.{Told, told}
 use Rattle.rings.specs.Trees.{empty}
 use Rattle.rings.proofs.Nodes.{Fault, _>>=_, instead}
-use Rattle.paper.specs.Collisions.{Collision}
-use Rattle.rings.specs.Endings.{ZeroDigest}
 use Rattle.rings.proofs.Endings.{fault-shows}
 use Rattle.rings.proofs.InPaper.{holds-ring}
 use Rattle.runs.specs.Run.{Turn, Reading, ofRuns, World, start, toldAt, landed, after}
@@ -84,11 +82,11 @@ module _ (D : List ℕ → Dig) (D32 : (l : List ℕ) → length (D l) ≡ 32) w
 
   -- a fault among the strings of a run is one of its endings
   pub shown : (k : Dig) (ts : List Turn) → Fault (digest D) (after D k ts .formed) → Ending D k ts
-  shown k ts f = by-kind (fault-shows (λ s i. well-at (after D k ts .formed) s (side D D32 k ts .well) i) f)
-    where
-      by-kind : Collision D (after D k ts .formed) ⊎ ZeroDigest D (after D k ts .formed) → Ending D k ts
-      by-kind (inl c) = collision c
-      by-kind (inr z) = zero z
+  shown k ts f =
+      elim (fault-shows {D = D} (λ s i. well-at (after D k ts .formed) s (side D D32 k ts .well) i) f) [
+        | inl c ↦ collision c
+        | inr z ↦ zero z
+      ]
 
   pub run : (k : Dig) (ts : List Turn) → Ending D k ts ⊎ (Core D D32 (after D k ts) × AllFair D k ts)
   run k [] = inr (core-start k, tt)

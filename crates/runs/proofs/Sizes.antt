@@ -2,14 +2,12 @@
 use mathlib.Core.Path.{_≡_, subst}
 use mathlib.Core.Bool.{false}
 use mathlib.Core.List.{List, [], _∷_, List·Memᴰ·cases-cons}
-use mathlib.Core.Logic.{_⊎_, inl, inr}
+use mathlib.Core.Logic.{inl, inr}
 use Prim.Native.Nat.{ℕ, _<_}
 use native.Mathlib.Decide.{decLt}
 use native.Mathlib.Omega.{arith}
 use borrow.Author.Tests.{eq-eqb, ne-eqb}
-use lib.Dec.{eqb}
 use lib.ListN.{length}
-use Rattle.seqs.specs.Choose.{pick}
 use Rattle.paper.specs.declared.Record.{Record}
 use Rattle.paper.specs.Strings.{Dig, Str, leaf, entry, digest, malformed}
 use Rattle.rings.specs.Trees.{points, Tree, empty, tip, branch, leaves, count}
@@ -30,13 +28,13 @@ use Rattle.runs.proofs.Safe.{Core}
 
 pub record-is : (b A : ℕ) (r : Record) (l : Items) → Ascending b l → Listed A r l → recordOf A l ≡ r
 record-is b A r [] g m = elim m [ ]
-record-is b A r (item a s ∷ l) g m = by-place (List·Memᴰ·cases-cons m) (record-is a A r l (g .1))
-  where
-    by-place : (item A r ≡ item a s) ⊎ Listed A r l → (Listed A r l → recordOf A l ≡ r) → pick (eqb A a) s (recordOf A l) ≡ r
-    by-place (inl e) f = let p : A ≡ a = cc in let q : s ≡ r = cc in rw (eq-eqb A a p) q
-    by-place (inr k) f =
-        let u = listed-above a A r l (g .1) k in
-        rw (ne-eqb A a (λ e. omega arith)) (f k)
+record-is b A r (item a s ∷ l) g m =
+    elim (List·Memᴰ·cases-cons m) [
+      | inl e ↦ (let p : A ≡ a = cc in let q : s ≡ r = cc in rw (eq-eqb A a p) q)
+      | inr k ↦ (
+          let u = listed-above a A r l (g .1) k in
+          rw (ne-eqb A a (λ e. omega arith)) (record-is a A r l (g .1) k))
+    ]
 
 -- ── widths ──
 
@@ -59,12 +57,10 @@ leaf-formed D F (tip (points a′ b′ v′)) a b v i m =
     let p : leaf a′ b′ v′ ≡ leaf a b v = cc in
     subst (λ (s : Str). s ∈ F) p i
 leaf-formed D F (branch l r) a b v i m =
-    by-side (decLt 0 (count (points a b v) (leaves l))) (leaf-formed D F l a b v (i .0)) (leaf-formed D F r a b v (i .1))
-  where
-    by-side : Dec (0 < count (points a b v) (leaves l)) → (0 < count (points a b v) (leaves l) → leaf a b v ∈ F)
-        → (0 < count (points a b v) (leaves r) → leaf a b v ∈ F) → leaf a b v ∈ F
-    by-side (yes k) f g = f k
-    by-side (no n) f g = g (omega (arith, count-append (points a b v) (leaves l) (leaves r)))
+    elim (decLt 0 (count (points a b v) (leaves l))) [
+      | yes k ↦ leaf-formed D F l a b v (i .0) k
+      | no n ↦ leaf-formed D F r a b v (i .1) (omega (arith, count-append (points a b v) (leaves l) (leaves r)))
+    ]
 
 known-small : (D : Str → Dig) (F : List Str) (r : Record) → Well F → Known D F r → SmallRecord r
 known-small D F r w (known-empty e) = rw e (omega arith, omega arith, omega arith, omega arith)
