@@ -65,21 +65,19 @@ module _ (D : Str → Dig) where
 
   pub split : {F : List Str} (T : Tree) (a b : Dig) → NodeIn D F a b → above D a b ≡ hash D T → TreeIn D F T
       → Fault D F ⊎ Split F a b (leaves T)
-  split {F} T a b m e i = go (Dig-discrete b nought) (Dig-discrete a nought)
-    where
-      go : Dec (b ≡ nought) → Dec (a ≡ nought) → Fault D F ⊎ Split F a b (leaves T)
-      go (yes q) d =
-          inr (record {
-            l = T;
-            r = empty;
-            hash-l = sym e ∙ above-right-0 D a b q;
-            hash-r = sym q;
-            in-l = i;
-            in-r = tt;
-            cut = λ x. rw count-nil (omega arith);
-          })
-      go (no n) (yes p) =
-          inr (record {
+  split T a b m e i =
+      elim (Dig-discrete b nought) [
+        | yes q ↦ inr (record {
+          l = T;
+          r = empty;
+          hash-l = sym e ∙ above-right-0 D a b q;
+          hash-r = sym q;
+          in-l = i;
+          in-r = tt;
+          cut = λ x. rw count-nil (omega arith);
+        })
+        | no n ↦ elim (Dig-discrete a nought) [
+          | yes p ↦ inr (record {
             l = empty;
             r = T;
             hash-l = sym p;
@@ -88,7 +86,9 @@ module _ (D : Str → Dig) where
             in-r = i;
             cut = λ x. rw count-nil (omega arith);
           })
-      go (no n) (no k) = split-node T a b (m k n) (sym (above-node D a b k n) ∙ e) i
+          | no k ↦ split-node T a b (m k n) (sym (above-node D a b k n) ∙ e) i
+        ]
+      ]
 
   -- ── a path, the topmost sibling first ──
 

@@ -89,18 +89,16 @@ module _ {R : Type 0} (h : R → Dig) where
         on = count-head _ _ _ refl;
       }
   spot-chain q a r (item b s ∷ l) z hz g k f =
-      go (decLt q b) (λ j. spot-chain q b s l z (omega (arith, g .0)) (g .1) j (f .1))
-    where
-      go : Dec (q < b) → (b < q → Spot q (chainOf h b s l z)) → Spot q (points a b (h r) ∷ chainOf h b s l z)
-      go (yes j) u =
-          record {
-            a = a;
-            b = b;
-            w = h r;
-            gap = between k j;
-            on = count-head _ _ _ refl;
-          }
-      go (no n) u = spot-behind _ (u (omega (arith, f .0)))
+      elim (decLt q b) [
+        | yes j ↦ record {
+          a = a;
+          b = b;
+          w = h r;
+          gap = between k j;
+          on = count-head _ _ _ refl;
+        }
+        | no n ↦ spot-behind _ (spot-chain q b s l z (omega (arith, g .0)) (g .1) (omega (arith, f .0)) (f .1))
+      ]
 
   pub spot : (q a : ℕ) (r : R) (l : List (Item R)) → 0 < q → Ascending 0 (item a r ∷ l) → Unlisted q (item a r ∷ l)
       → Spot q (ring h (item a r ∷ l))

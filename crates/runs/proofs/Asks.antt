@@ -3,7 +3,7 @@
 use mathlib.Core.Path.{_≡_, refl, sym, ap, subst, _∙_}
 use mathlib.Core.Bool.{true}
 use mathlib.Core.List.{List, [], _∷_, _++_, append-assoc}
-use mathlib.Core.Logic.{_⊎_, inl, inr}
+use mathlib.Core.Logic.{inl, inr}
 use Prim.Native.Nat.{ℕ, _<_}
 use native.Mathlib.Omega.{arith}
 use borrow.Author.Tests.{eq-eqb}
@@ -17,7 +17,7 @@ use Rattle.paper.specs.Refusals.{leafOf, needs}
 use Rattle.paper.specs.Answers.{findingOf}
 use Rattle.paper.specs.Module.{Told}
 use Rattle.rings.specs.Trees.{Leaf, points, Tree, empty, tip, branch, leaves, hashOf, count}
-use Rattle.rings.specs.Lists.{item, Listed, Unlisted}
+use Rattle.rings.specs.Lists.{item, Listed}
 use Rattle.rings.proofs.Counting.{one-self, count-nil, count-cons, count-append, occurs}
 use Rattle.rings.proofs.Gaps.{gap-holds, gap-tells}
 use Rattle.rings.proofs.Items.{listed?}
@@ -69,15 +69,16 @@ module _ {D : List ℕ → Dig} {w : World} {T : Tree} (g : Ground D w T) where
 
   -- q's own leaf, or the one whose gap holds q
   tells : (q : ℕ) → 0 < q → (a : ℕ) (r : Record) (l : Items) → w .items ≡ item a r ∷ l → has (tellsOf q) T ≡ true
-  tells q h a r l e = by-list (listed? q (w .items))
-    where
-      by-list : Unlisted q (w .items) ⊎ ((t : Record) × Listed q t (w .items)) → has (tellsOf q) T ≡ true
-      by-list (inr t) =
-          let i = item-leaf (recordHash D) q (t .0) (w .items) (t .1) in
-          spot-by g (tellsOf q) (points q (i .0) (recordHash D (t .0))) (rw (eq-eqb q q refl) refl) (i .1)
-      by-list (inl u) =
-          let i = spot (recordHash D) q a r l h (rw e at (g .ascending)) (rw e at u) in
-          spot-by g (tellsOf q) (points (i .a) (i .b) (i .w)) (rw (gap-tells (i .gap), either-yes) refl) (rw e (i .on))
+  tells q h a r l e =
+      elim (listed? q (w .items)) [
+        | inr t ↦ (
+            let i = item-leaf (recordHash D) q (t .0) (w .items) (t .1) in
+            spot-by g (tellsOf q) (points q (i .0) (recordHash D (t .0))) (rw (eq-eqb q q refl) refl) (i .1))
+        | inl u ↦ (
+            let i = spot (recordHash D) q a r l h (rw e at (g .ascending)) (rw e at u) in
+            spot-by g (tellsOf q) (points (i .a) (i .b) (i .w)) (rw (gap-tells (i .gap), either-yes) refl)
+            (rw e (i .on)))
+      ]
 
   -- ── what a question comes to ──
 

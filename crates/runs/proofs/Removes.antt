@@ -2,7 +2,7 @@
 use mathlib.Core.Path.{_≡_, refl, sym, ap, ap₂, subst, _∙_}
 use mathlib.Core.Bool.{Bool, true, false}
 use mathlib.Core.List.{List, [], _∷_, List·Memᴰ·cases-cons}
-use mathlib.Core.Logic.{_⊎_, inl, inr, _≢_}
+use mathlib.Core.Logic.{inl, inr, _≢_}
 use Prim.Native.Nat.{ℕ, _+_, _≤_, _<_}
 use native.Mathlib.Decide.{decLt}
 use native.Mathlib.Omega.{arith}
@@ -105,13 +105,10 @@ module _ {D : List ℕ → Dig} {w : World} {T : Tree} (g : Ground D w T) where
       adopt-last (g .ready) (Q.first A ∷ turnRound D s (alone D s A) ∷ []) (turned (alone D s A)) (removal A ∷ [])
       (record { old = ha .new; new = ha .old }) root k
     where
-      same-item : (item A clearedRecord ≡ item a r) ⊎ Listed A clearedRecord [] → item A clearedRecord ≡ item a r
-      same-item (inl p) = p
-      same-item (inr j) = elim j [ ]
-
       single : (x : Leaf) → count x (points a a (recordHash D r) ∷ []) ≡ one x (points A A nought)
       single x =
-          let p = same-item (List·Memᴰ·cases-cons (rw e at m)) in
+          let p : item A clearedRecord ≡ item a r =
+          elim (List·Memᴰ·cases-cons (rw e at m)) [ inl p ↦ p | inr j ↦ elim j [ ] ] in
           let q : A ≡ a = cc in
           let u : clearedRecord ≡ r = cc in
           let v : recordHash D r ≡ nought = ap (recordHash D) (sym u) ∙ no-record-hash D in

@@ -7,7 +7,7 @@ use Prim.Native.Nat.{ℕ, _+_}
 use lib.ListN.{length}
 use Rattle.sha256.specs.Hash.{sha256}
 use Rattle.sha256.proofs.Digests.{sha256-length}
-use Rattle.paper.specs.Strings.{Dig, Str, digest}
+use Rattle.paper.specs.Strings.{Dig, digest}
 use Rattle.paper.specs.Requests.{Request}
 use Rattle.paper.specs.Refusals.{refused}
 use Rattle.paper.specs.Answers.{answer}
@@ -33,12 +33,6 @@ module _ (D : List ℕ → Dig) (D32 : (l : List ℕ) → length (D l) ≡ 32) w
       (Fault (digest D) (a .formed ++ w .formed) ⊎ ((a .refusal ≡ 0) × Forgery D w q))
       ⊎ (Core D D32 (landed D by w a) × (a .refusal ≡ 0 → TrueAnswer D q (w .items)) × LegalEffect D w (a .effect))
 
-  -- an accepted line's fault or forgery
-  was-accepted : {F : List Str} (w : World) (q : Request) (n : ℕ) → n ≡ 0 → Fault (digest D) F ⊎ Forgery D w q
-      → Fault (digest D) F ⊎ ((n ≡ 0) × Forgery D w q)
-  was-accepted w q n e (inl f) = inl f
-  was-accepted w q n e (inr f) = inr (e, f)
-
   -- ── any line ──
 
   pub line-out : (by : Reading) (w : World) (t : Turn) → Core D D32 w → Out by w (asked t) (toldAt D w t)
@@ -50,7 +44,7 @@ module _ (D : List ℕ → Dig) (D32 : (l : List ℕ) → length (D l) ≡ 32) w
           subst (Out by w (asked t)) (sym e) (inr (kept-core D D32 by w a refl refl refl c, (λ o. absurd (z o)), tt))
       by-sort (acceptance fs e h j n i) = subst (Out by w (asked t)) (sym e) (do
         let own = answer D (w .registers) (asked t) .forms
-        r ← instead (was-accepted w (asked t) 0 refl) (accepted D D32 by w (kindIn t) fs c (asked t) (record {
+        r ← instead (λ x. elim x [ inl f ↦ inl f | inr f ↦ inr (refl, f) ]) (accepted D D32 by w (kindIn t) fs c (asked t) (record {
           none-fails = n;
           of-answer = λ x m. Memᴰ·append-left (w .formed) (Memᴰ·append-left fs m);
           of-check = λ d l x m. Memᴰ·append-left (w .formed) (Memᴰ·append-right own (i d l x m));
