@@ -37,31 +37,30 @@ module _ (D : Str → Dig) where
     p ← same-string D m i e
     let z : _≡_ {A = ℕ} 0 1 = cc
     absurd (omega arith)
-  split-node {F} (branch l r) a b m e i =
-      go (Dig-discrete (hash D l) nought) (Dig-discrete (hash D r) nought)
-      (λ h. split-node l a b m h (i .0)) (λ h. split-node r a b m h (i .1))
-    where
-      go : Dec (hash D l ≡ nought) → Dec (hash D r ≡ nought) → (D (node a b) ≡ hash D l → Fault D F ⊎ Split F a b (leaves l))
-          → (D (node a b) ≡ hash D r → Fault D F ⊎ Split F a b (leaves r)) → Fault D F ⊎ Split F a b (leaves l ++ leaves r)
-      go (yes p) d f g = do
-        u ← no-leaf D l p (i .0)
-        s ← g (e ∙ above-left-0 D (hash D l) (hash D r) p)
-        inr (rw u s)
-      go (no n) (yes q) f g = do
-        u ← no-leaf D r q (i .1)
-        s ← f (e ∙ above-right-0 D (hash D l) (hash D r) q)
-        inr (rw (u, append-nil) s)
-      go (no n) (no k) f g = do
-        p ← same-string D m (i .2 n k) (e ∙ above-node D (hash D l) (hash D r) n k)
-        inr (record {
-          l = l;
-          r = r;
-          hash-l = cc;
-          hash-r = cc;
-          in-l = i .0;
-          in-r = i .1;
-          cut = λ x. count-append x (leaves l) (leaves r);
-        })
+  split-node (branch l r) a b m e i =
+      elim (Dig-discrete (hash D l) nought) [
+        | yes p ↦ (do
+          u ← no-leaf D l p (i .0)
+          s ← split-node r a b m (e ∙ above-left-0 D (hash D l) (hash D r) p) (i .1)
+          inr (rw u s))
+        | no n ↦ elim (Dig-discrete (hash D r) nought) [
+          | yes q ↦ (do
+            u ← no-leaf D r q (i .1)
+            s ← split-node l a b m (e ∙ above-right-0 D (hash D l) (hash D r) q) (i .0)
+            inr (rw (u, append-nil) s))
+          | no k ↦ (do
+            p ← same-string D m (i .2 n k) (e ∙ above-node D (hash D l) (hash D r) n k)
+            inr (record {
+              l = l;
+              r = r;
+              hash-l = cc;
+              hash-r = cc;
+              in-l = i .0;
+              in-r = i .1;
+              cut = λ x. count-append x (leaves l) (leaves r);
+            }))
+        ]
+      ]
 
   pub split : {F : List Str} (T : Tree) (a b : Dig) → NodeIn D F a b → above D a b ≡ hash D T → TreeIn D F T
       → Fault D F ⊎ Split F a b (leaves T)

@@ -1,7 +1,7 @@
 -- Trees and their hashes for a digest D of strings, and what can be said of a tree by its hash alone, or else shown: two
 -- different strings of F with one digest, or one whose digest is 0. F is any list of strings that holds those of the trees.
 use mathlib.Core.Path.{_≡_, refl, sym, _∙_}
-use mathlib.Core.List.{List, [], _∷_, _++_, List·Memᴰ, List-discrete}
+use mathlib.Core.List.{List, [], _∷_, List·Memᴰ, List-discrete}
 use mathlib.Core.Logic.{_⊎_, inl, inr, _≢_}
 use Prim.Native.Nat.{ℕ}
 use native.Mathlib.Decide.{ℕ-discrete}
@@ -104,19 +104,17 @@ module _ (D : Str → Dig) where
   pub no-leaf : {F : List Str} (T : Tree) → hash T ≡ nought → TreeIn F T → Fault F ⊎ (leaves T ≡ [])
   no-leaf empty e i = inr refl
   no-leaf (tip (points a b w)) e i = inl (vanishes (leaf a b w) i e)
-  no-leaf {F} (branch l r) e i =
-      go (Dig-discrete (hash l) nought) (Dig-discrete (hash r) nought) (λ h. no-leaf l h (i .0)) (λ h. no-leaf r h (i .1))
-    where
-      go : Dec (hash l ≡ nought) → Dec (hash r ≡ nought) → (hash l ≡ nought → Fault F ⊎ (leaves l ≡ []))
-          → (hash r ≡ nought → Fault F ⊎ (leaves r ≡ [])) → Fault F ⊎ (leaves l ++ leaves r ≡ [])
-      go (yes p) (yes q) f g = do
-        u ← f p
-        v ← g q
-        inr (rw (u, v))
-      go (yes p) (no n) f g = absurd (n (sym (above-left-0 (hash l) (hash r) p) ∙ e))
-      go (no n) (yes q) f g = absurd (n (sym (above-right-0 (hash l) (hash r) q) ∙ e))
-      go (no n) (no m) f g =
-          inl (vanishes (node (hash l) (hash r)) (i .2 n m) (sym (above-node (hash l) (hash r) n m) ∙ e))
+  no-leaf (branch l r) e i =
+      elim (Dig-discrete (hash l) nought) [
+        | yes p ↦ (do
+          u ← no-leaf l p (i .0)
+          v ← no-leaf r (sym (above-left-0 (hash l) (hash r) p) ∙ e) (i .1)
+          inr (rw (u, v)))
+        | no n ↦ elim (Dig-discrete (hash r) nought) [
+          | yes q ↦ absurd (n (sym (above-right-0 (hash l) (hash r) q) ∙ e))
+          | no m ↦ inl (vanishes (node (hash l) (hash r)) (i .2 n m) (sym (above-node (hash l) (hash r) n m) ∙ e))
+        ]
+      ]
 
   -- a tree that hashes to a leaf's digest holds that leaf alone
   pub only-leaf : {F : List Str} (T : Tree) (a b : ℕ) (w : Dig) → leaf a b w ∈ F → hash T ≡ D (leaf a b w) → TreeIn F T
@@ -125,23 +123,20 @@ module _ (D : Str → Dig) where
   only-leaf {F} (tip (points a′ b′ w′)) a b w m e i = do
     p ← same-string i m e
     inr (cc)
-  only-leaf {F} (branch l r) a b w m e i =
-      go (Dig-discrete (hash l) nought) (Dig-discrete (hash r) nought)
-      (λ h. only-leaf l a b w m h (i .0)) (λ h. only-leaf r a b w m h (i .1))
-    where
-      go : Dec (hash l ≡ nought) → Dec (hash r ≡ nought)
-          → (hash l ≡ D (leaf a b w) → Fault F ⊎ (leaves l ≡ points a b w ∷ []))
-          → (hash r ≡ D (leaf a b w) → Fault F ⊎ (leaves r ≡ points a b w ∷ []))
-          → Fault F ⊎ (leaves l ++ leaves r ≡ points a b w ∷ [])
-      go (yes p) d f g = do
-        u ← no-leaf l p (i .0)
-        v ← g (sym (above-left-0 (hash l) (hash r) p) ∙ e)
-        inr (rw (u, v))
-      go (no n) (yes q) f g = do
-        u ← no-leaf r q (i .1)
-        v ← f (sym (above-right-0 (hash l) (hash r) q) ∙ e)
-        inr (rw (u, v))
-      go (no n) (no k) f g = do
-        p ← same-string (i .2 n k) m (sym (above-node (hash l) (hash r) n k) ∙ e)
-        let z : _≡_ {A = ℕ} 0 1 = cc
-        absurd (omega arith)
+  only-leaf (branch l r) a b w m e i =
+      elim (Dig-discrete (hash l) nought) [
+        | yes p ↦ (do
+          u ← no-leaf l p (i .0)
+          v ← only-leaf r a b w m (sym (above-left-0 (hash l) (hash r) p) ∙ e) (i .1)
+          inr (rw (u, v)))
+        | no n ↦ elim (Dig-discrete (hash r) nought) [
+          | yes q ↦ (do
+            u ← no-leaf r q (i .1)
+            v ← only-leaf l a b w m (sym (above-right-0 (hash l) (hash r) q) ∙ e) (i .0)
+            inr (rw (u, v)))
+          | no k ↦ (do
+            p ← same-string (i .2 n k) m (sym (above-node (hash l) (hash r) n k) ∙ e)
+            let z : _≡_ {A = ℕ} 0 1 = cc
+            absurd (omega arith))
+        ]
+      ]

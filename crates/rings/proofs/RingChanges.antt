@@ -45,15 +45,13 @@ module _ {R : Type 0} (h : R → Dig) where
           let e = count-single _ _ t in
           let e′ : points a B (h r) ≡ points a z (h r) = cc in
           simp (count-cons, count-nil) (omega (arith, ap (one x) e, ap (one x) e′))
-      last (item c s′ ∷ l′) k p t = on (count-cases _ _ _ t)
-        where
-          on : (points q B v ≡ points b c (h s)) ⊎ (0 < count (points q B v) (chainOf h c s′ l′ z))
-              → count x (points b c (h s) ∷ chainOf h c s′ l′ z) + one x (points a B (h r))
-              ≡ count x (points a c (h r) ∷ chainOf h c s′ l′ z) + one x (points q B v)
-          on (inl e) =
-              let e′ : points a B (h r) ≡ points a c (h r) = cc in
-              simp count-cons (omega (arith, ap (one x) e, ap (one x) e′))
-          on (inr t′) = absurd (omega (arith, k .0, (bounds h q B v c s′ l′ z (k .1) t′) .0))
+      last (item c s′ ∷ l′) k p t =
+          elim (count-cases _ _ _ t) [
+            | inl e ↦ (
+                let e′ : points a B (h r) ≡ points a c (h r) = cc in
+                simp count-cons (omega (arith, ap (one x) e, ap (one x) e′)))
+            | inr t′ ↦ absurd (omega (arith, k .0, (bounds h q B v c s′ l′ z (k .1) t′) .0))
+          ]
 
       go : (t : Bool) → eqb q b ≡ t → (points A q w ≡ points a b (h r)) ⊎ (0 < count (points A q w) (chainOf h b s l z))
           → (points q B v ≡ points a b (h r)) ⊎ (0 < count (points q B v) (chainOf h b s l z))
