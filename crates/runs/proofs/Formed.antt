@@ -178,6 +178,7 @@ module _ (D : List ℕ → Dig) (D32 : (l : List ℕ) → length (D l) ≡ 32) w
         says-after (changeForms D A A′ old new) (changeSays D A A′ old new y y′) m (well-change A A′ old new hA hA′ ho hn)
         (d32 _ and hy and d32 _ and hy′ and k and tt)
 
+    -- check by check of its list; `tt` is one that forms nothing
     forms : (q : Request) → Small (s .counter .0) → Wide q → Forms s q
     forms (Q.path x x′ sides l) c w = of-checks (λ o. rw o refl) (λ k. tt and tt)
     forms (Q.witness x y m) c w =

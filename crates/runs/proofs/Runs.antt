@@ -21,7 +21,7 @@ use Rattle.runs.specs.Endings.{Ending, collision, zero, forged, earlier}
 use Rattle.runs.specs.Safety.{Stands, TrueAnswer, LegalEffect, AllFair, SafeOrEnded, Safety}
 use Rattle.runs.proofs.Lines.{asked, kindIn, Sorted, refusal, acceptance, sorted}
 use Rattle.runs.proofs.Formed.{well-at}
-use Rattle.runs.proofs.Carried.{Forgery}
+use Rattle.runs.proofs.Carried.{Forgery, Given}
 use Rattle.runs.proofs.Safe.{Core, kept-core, accepted}
 use Rattle.runs.proofs.Sides.{side}
 
@@ -44,12 +44,13 @@ module _ (D : List ℕ → Dig) (D32 : (l : List ℕ) → length (D l) ≡ 32) w
           subst (Out by w (asked t)) (sym e) (inr (kept-core D D32 by w a refl refl refl c, (λ o. absurd (z o)), tt))
       by-sort (acceptance fs e h j n i) = subst (Out by w (asked t)) (sym e) (do
         let own = answer D (w .registers) (asked t) .forms
-        r ← instead (λ x. elim x [ inl f ↦ inl f | inr f ↦ inr (refl, f) ]) (accepted D D32 by w (kindIn t) fs c (asked t) (record {
+        let given : Given D w ((own ++ fs) ++ w .formed) (asked t) = record {
           none-fails = n;
           of-answer = λ x m. Memᴰ·append-left (w .formed) (Memᴰ·append-left fs m);
           of-check = λ d l x m. Memᴰ·append-left (w .formed) (Memᴰ·append-right own (i d l x m));
           wide = h;
-        }))
+        }
+        r ← instead (λ x. elim x [ inl f ↦ inl f | inr f ↦ inr (refl, f) ]) (accepted D D32 by w (kindIn t) fs c (asked t) given)
         inr (r .0, (λ z. r .1), r .2))
 
   -- an accepted line's reply is its kind plus 80 and what its answer lists

@@ -85,8 +85,8 @@ module _ {D : List ℕ → Dig} {w : World} {T : Tree} (g : Ground D w T) where
         lines = one-place (g .ready) (w .formed) (w .book) p e (record { old = DD _; new = DD _ });
       }
 
-  below-top : (c : ℕ) → c < top → eqb c top ≡ false
-  below-top c h = ne-eqb c top (λ e. omega arith)
+  not-at-top : (c : ℕ) → c < top → eqb c top ≡ false
+  not-at-top c h = ne-eqb c top (λ e. omega arith)
 
   pub set-brings : (A v2 v3 v4 : ℕ) (r : Record) → Listed A r (w .items) → Small v2 → Small v3 → Small v4 → s .counter .0 < top
       → Brings D w (setLines D s A v2 v3 v4 T (w .items)) (raised s (hashOf D (treeRewritten D A (nextRecord s v2 v3 v4) T)))
@@ -98,7 +98,7 @@ module _ {D : List ℕ → Dig} {w : World} {T : Tree} (g : Ground D w T) where
       (brings D (leads-on D (h .leads)
       (leads-one D (at w (h .formed) (h .book)) (Q.setTo A _ _ v2 v3 v4 _ _ _)
       (u .item .small, u .spot .next-small, u .item .small-record, s2, s3, s4, u .digests)
-      (is-open (g .ready) and u .numbered and u .next-numbered and u .item .sound and below-top (s .counter .0) below
+      (is-open (g .ready) and u .numbered and u .next-numbered and u .item .sound and not-at-top (s .counter .0) below
       and u .fits and u .at-root and tt)
       (h .got, tt))))
 
@@ -113,5 +113,5 @@ module _ {D : List ℕ → Dig} {w : World} {T : Tree} (g : Ground D w T) where
       (leads-one D (at w (h .formed) (h .book)) (Q.clear A _ _ _ _ _)
       (u .item .small, u .spot .next-small, u .item .small-record, u .digests)
       (is-open (g .ready) and u .numbered and u .next-numbered and u .item .sound
-      and (ap blank (u .record-same) ∙ recorded) and below-top (s .counter .0) below and u .fits and u .at-root and tt)
+      and (ap blank (u .record-same) ∙ recorded) and not-at-top (s .counter .0) below and u .fits and u .at-root and tt)
       (h .got, tt))))
