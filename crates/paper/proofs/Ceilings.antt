@@ -147,8 +147,8 @@ module _ (D : List ℕ → Dig) where
   rows s (Q.turn x y m) = omega (arith, one (s .secret) (ei x y) m)
   rows s (Q.chain x y m1 z m2) = omega (arith, one (s .secret) (ei x y) m1, one (s .secret) (ei y z) m2)
   rows s (Q.adopt y y′ m) = omega (arith, one (s .secret) (ei y y′) m)
-  rows s (Q.setTo A A′ old v2 v3 v4 y y′ m) =
-      let new = nextRecord s v2 v3 v4 in
+  rows s (Q.setTo A A′ old v y y′ m) =
+      let new = nextRecord s v in
       omega (arith, changed s A A′ old new y y′ m 1 (record-cost new))
   rows s (Q.clear A A′ old y y′ m) = omega (arith, changed s A A′ old clearedRecord y y′ m 0 cleared-cost)
   rows s (Q.ask q A A′ r y m) =

@@ -9,7 +9,7 @@ use lib.ListN.{length, getD, take, drop}
 use lib.Seq.{getD-drop, drop-drop}
 use Rattle.seqs.specs.Choose.{both, both-true, both-right}
 use Rattle.seqs.specs.Bytes.{numberOf}
-use Rattle.paper.specs.Requests.{Carried, aNumber, aDigest, aRecord, aPath, Kind, unlock, kinds, kindOf, rowOf, takesAll, soundAll, fits}
+use Rattle.paper.specs.Requests.{Carried, aNumber, aDigest, aRecord, theValues, aPath, Kind, unlock, kinds, kindOf, rowOf, takesAll, soundAll, fits}
 
 -- ── a path ──
 
@@ -55,6 +55,7 @@ noPath [] = true
 noPath (aNumber ∷ l) = noPath l
 noPath (aDigest ∷ l) = noPath l
 noPath (aRecord ∷ l) = noPath l
+noPath (theValues ∷ l) = noPath l
 noPath (aPath ∷ l) = false
 
 -- without a path the length is the same whatever the bytes are, and nothing else is asked
@@ -63,6 +64,7 @@ fixed [] l h = (refl, refl)
 fixed (aNumber ∷ cs) l h = let a = fixed cs (drop 8 l) h in let b = fixed cs (drop 8 []) h in (cc, a .1)
 fixed (aDigest ∷ cs) l h = let a = fixed cs (drop 32 l) h in let b = fixed cs (drop 32 []) h in (cc, a .1)
 fixed (aRecord ∷ cs) l h = let a = fixed cs (drop 32 l) h in let b = fixed cs (drop 32 []) h in (cc, a .1)
+fixed (theValues ∷ cs) l h = let a = fixed cs (drop 24 l) h in let b = fixed cs (drop 24 []) h in (cc, a .1)
 fixed (aPath ∷ cs) l h = (cc, cc)
 
 -- the length of each kind's frame, by the kind; of a path the shortest

@@ -15,6 +15,7 @@ use Rattle.seqs.specs.Choose.{pick, both, either, opposite, both-true, _and_}
 use Rattle.seqs.specs.Bytes.{be64, be64-length, numberOf, number-be64, same, same-true}
 use Rattle.hex.specs.Hex.{bytesOf}
 use Rattle.paper.specs.declared.Record.{Record}
+use Rattle.paper.specs.declared.Values.{Values}
 use Rattle.paper.specs.declared.Registers.{Registers}
 use Rattle.paper.specs.Strings.{Dig, nought, u1, Str, leaf, entry, memo, enc, digest, blank, recordForms, recordHash}
 use Rattle.paper.specs.Requests.{Request, setTo, kinds, kindOf, rowOf, part, requestOf}
@@ -110,16 +111,16 @@ hashes-by false false z d d′ e e′ h = h
 
 module _
     (D : List ℕ → Dig) (D32 : (l : List ℕ) → length (D l) ≡ 32) (line : List ℕ)
-    (A A′ : ℕ) (old : Record) (v2 v3 v4 : ℕ) (y y′ m : Dig)
-    (e : requestOf (bytesOf line) ≡ setTo A A′ old v2 v3 v4 y y′ m) where
+    (A A′ : ℕ) (old : Record) (v : Values) (y y′ m : Dig)
+    (e : requestOf (bytesOf line) ≡ setTo A A′ old v y y′ m) where
   abbrev q : Request
-  q = setTo A A′ old v2 v3 v4 y y′ m
+  q = setTo A A′ old v y y′ m
 
   abbrev kind : ℕ
   kind = kindOf (bytesOf line)
 
   abbrev new : Registers → Record
-  new r = nextRecord r v2 v3 v4
+  new r = nextRecord r v
 
   abbrev newLeaf : Registers → Str
   newLeaf r = leafOf D A A′ (new r)
@@ -230,4 +231,4 @@ unfolding requestOf kinds
 older-gets-8 D D32 s₀ s line space₀ space L =
     let f : List ℕ = bytesOf line in
     let e = ap (λ (k : ℕ). rowOf k .reads (part (rowOf k .carries) (drop 1 f))) (L .kind) in
-    gets-8 D D32 line _ _ _ _ _ _ _ _ _ e s₀ s space₀ space L _ refl
+    gets-8 D D32 line _ _ _ _ _ _ _ e s₀ s space₀ space L _ refl

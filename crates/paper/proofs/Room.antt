@@ -18,7 +18,7 @@ use Rattle.paper.specs.declared.Registers.{Registers}
 use Rattle.paper.specs.declared.Finding.the-variants.{Recorded, Listed, Gap}
 use Rattle.paper.specs.Strings.{Dig, enc, node, memo, u1, blank, H, up, foldUp}
 use Rattle.paper.specs.Requests as Q
-use Rattle.paper.specs.Requests.{Carried, aNumber, aDigest, aRecord, aPath, countIn, sidesIn, digestsIn, siblingsIn, Kind, kinds, kindOf, rowOf, takes, part, requestOf}
+use Rattle.paper.specs.Requests.{Carried, aNumber, aDigest, aRecord, theValues, aPath, countIn, sidesIn, digestsIn, siblingsIn, Kind, kinds, kindOf, rowOf, takes, part, requestOf}
 use Rattle.paper.specs.Refusals.{Check, order, replyRoom, applies, Verdict, refused, passed, judge, Passed, FirstToApply}
 use Rattle.paper.specs.Answers.{findingOf, findingBytes, answer}
 use Rattle.paper.specs.Module.{told, checksOf, answerTo, replyLine}
@@ -47,12 +47,14 @@ abbrev ShortOf : Carried → List ℕ → Type 0
 ShortOf aNumber l = Unit {0}
 ShortOf aDigest l = Short l
 ShortOf aRecord l = Unit {0}
+ShortOf theValues l = Unit {0}
 ShortOf aPath l = Unit {0}
 
 short-of : (c : Carried) (l : List ℕ) → ShortOf c (take (takes c l) l)
 short-of aNumber l = tt
 short-of aDigest l = take-short 32 l
 short-of aRecord l = tt
+short-of theValues l = tt
 short-of aPath l = tt
 
 abbrev ShortAt : List Carried → ℕ → List ℕ → Type 0
@@ -148,7 +150,7 @@ module _ (D : List ℕ → Dig) (D32 : (l : List ℕ) → length (D l) ≡ 32) w
       and (λ s p h. memo-short _)
       and (λ s p h. memo-short _)
       and (λ s p h. omega (arith, h 1))
-      and (λ s p h. raised-short (p 7) _ (h 7))
+      and (λ s p h. raised-short (p 5) _ (h 5))
       and (λ s p h. raised-short (p 4) _ (h 4))
       and (λ s p h. finding-short _ _ _ _)
       and (λ s p h. omega arith)

@@ -10,7 +10,7 @@ use Rattle.paper.specs.declared.Record.{Record}
 use Rattle.paper.specs.declared.Registers.{Registers}
 use Rattle.paper.specs.declared.Finding.{Finding}
 use Rattle.paper.specs.declared.Finding.the-variants.{Recorded, Listed, Gap}
-use Rattle.paper.specs.Strings.{Dig, nought, Memo, u1, v1, u2, ei, Str, leaf, memo, nums, numbers, spread, blank, parentForms, digest, H, foldUp, foldForms}
+use Rattle.paper.specs.Strings.{Dig, nought, Memo, u1, v1, u2, ei, Str, leaf, nums, numbers, spread, blank, parentForms, digest, memorandum, memorandumForms, H, foldUp, foldForms}
 use Rattle.paper.specs.Requests.{Request, path, witness, join, pair, raise, swap, first, place, turn, chain, adopt, setTo, clear, ask, askNone, unlock}
 use Rattle.paper.specs.Refusals.{nextRecord, clearedRecord}
 
@@ -50,15 +50,25 @@ findingBytes (Gap A A′) = 3 ∷ spread (nums (A .0 ∷ A′ .0 ∷ []))
 
 -- ── registers ──
 
--- another root; another root and the counter raised; the secret handed in
+-- one register changed, and every other as it was
 abbrev pub rooted : Registers → Dig → Registers
 rooted s y = record { root = y; counter = s .counter; secret = s .secret; opened = s .opened }
 
+abbrev pub countedUp : Registers → Registers
+countedUp s = record { root = s .root; counter = record { 0 = s .counter .0 + 1 }; secret = s .secret; opened = s .opened }
+
+abbrev pub withSecret : Registers → Dig → Registers
+withSecret s k = record { root = s .root; counter = s .counter; secret = k; opened = s .opened }
+
+abbrev pub shownOpen : Registers → Registers
+shownOpen s = record { root = s .root; counter = s .counter; secret = s .secret; opened = true }
+
+-- another root and the counter raised; the secret handed in
 abbrev pub raised : Registers → Dig → Registers
-raised s y = record { root = y; counter = record { 0 = s .counter .0 + 1 }; secret = s .secret; opened = s .opened }
+raised s y = countedUp (rooted s y)
 
 abbrev pub unlocked : Registers → Dig → Registers
-unlocked s k = record { root = s .root; counter = s .counter; secret = k; opened = true }
+unlocked s k = shownOpen (withSecret s k)
 
 -- ── answers ──
 pub record Answer : Type 0 where
@@ -72,9 +82,9 @@ module _ (D : List ℕ → Dig) where
   abbrev pub issue : Registers → (shown : List ℕ) (before : List Str) → Memo → Change → Answer
   issue s shown before t c =
       record {
-        lists = shown ++ digest D (memo t (s .secret));
+        lists = shown ++ memorandum D t (s .secret);
         after = s;
-        forms = memo t (s .secret) ∷ before;
+        forms = memorandumForms D t (s .secret) ++ before;
         effect = issues t c;
       }
 
@@ -94,12 +104,12 @@ module _ (D : List ℕ → Dig) where
   answer s (turn x y m) = issue s [] [] (ei y x) (reverses m)
   answer s (chain x y m1 z m2) = issue s [] [] (ei x z) (both m1 m2)
   answer s (adopt y y′ m) = record { lists = y′; after = rooted s y′; forms = []; effect = adopts m }
-  answer s (setTo A A′ old v2 v3 v4 y y′ m) =
+  answer s (setTo A A′ old v y y′ m) =
       record {
         lists = y′ ++ be64 (s .counter .0 + 1);
         after = raised s y′;
         forms = [];
-        effect = changes A (nextRecord s v2 v3 v4);
+        effect = changes A (nextRecord s v);
       }
   answer s (clear A A′ old y y′ m) =
       record {

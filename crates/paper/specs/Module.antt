@@ -9,7 +9,7 @@ use Rattle.hex.specs.Hex.{bytesOf, lineOf}
 use Rattle.paper.specs.declared.Registers.{Registers}
 use Rattle.paper.specs.Strings.{Dig, nought, Str}
 use Rattle.paper.specs.Requests.{Request, kindOf, requestOf}
-use Rattle.paper.specs.Refusals.{Check, order, longestFrame, roomFor, replyRoom, isHex, isKind, isFrame, needs, Verdict, refused, passed, judge}
+use Rattle.paper.specs.Refusals.{Check, plain, order, longestFrame, roomFor, replyRoom, isHex, isKind, isFrame, needs, Verdict, refused, passed, judge}
 use Rattle.paper.specs.Answers.{Effect, none′, answer}
 
 -- ── the reader and the writer ──
@@ -31,7 +31,7 @@ readRefusal line space =
 -- "Writing a frame refuses ..: empty or longer than that 1, then 2 and 3 as below, then 15 if the space is
 -- shorter than the line", with its 0A
 abbrev pub isWritable : List ℕ → Check
-isWritable f = record { number = 1; fails = either (eqb (length f) 0) (ltb longestFrame (length f)); forms = [] }
+isWritable f = plain 1 (either (eqb (length f) 0) (ltb longestFrame (length f)))
 
 unfoldable pub writeRefusal : (frame : List ℕ) (space : ℕ) → ℕ
 writeRefusal f space =

@@ -9,15 +9,22 @@ use Rattle.seqs.specs.Choose.{pick, either, opposite}
 use Rattle.seqs.specs.Bytes.{same, allZero}
 use Rattle.hex.specs.Hex.{allDigits}
 use Rattle.paper.specs.declared.Record.{Record}
+use Rattle.paper.specs.declared.Values.{Values}
 use Rattle.paper.specs.declared.Registers.{Registers}
-use Rattle.paper.specs.Strings.{Dig, nought, Memo, u1, v1, u2, ei, Str, leaf, memo, malformed, blank, recordForms, inGap, digest, recordHash}
+use Rattle.paper.specs.Strings.{Dig, nought, Memo, u1, v1, u2, ei, Str, leaf, malformed, emptyRecord, blank, recordForms, inGap, digest, memorandum, memorandumForms, recordHash}
 use Rattle.paper.specs.Requests.{Request, path, witness, join, pair, raise, swap, first, place, turn, chain, adopt, setTo, clear, ask, askNone, unlock, known, fits, mostSiblings}
 
--- A check: its number in 01's table, whether it fails ("given when"), and the strings that it forms.
+-- A check: its number in 01's table, whether it fails ("given when"), the strings that it forms, and the memorandum that it
+-- compares, if any.
 pub record Check : Type 0 where
   pub number : ℕ
   pub fails : Bool
   pub forms : List Str
+  pub compares : List Dig
+
+-- a check that looks at numbers and registers alone
+abbrev pub plain : (number : ℕ) (fails : Bool) → Check
+plain n b = record { number = n; fails = b; forms = []; compares = [] }
 
 -- "Checked in this order"
 abbrev pub order : List ℕ
@@ -31,7 +38,7 @@ longestFrame = 74 + 32 * mostSiblings
 
 -- 15: the space is shorter than what has to fit it; for the module, "reply space under 195 bytes"
 abbrev pub roomFor : (need space : ℕ) → Check
-roomFor need space = record { number = 15; fails = ltb space need; forms = [] }
+roomFor need space = plain 15 (ltb space need)
 
 abbrev pub replyRoom : ℕ
 replyRoom = 195
@@ -39,106 +46,111 @@ replyRoom = 195
 -- 1: "line empty, odd, too long, or with another byte than 0-9, a-f"
 abbrev pub isHex : List ℕ → Check
 isHex line =
-    record {
-      number = 1;
-      fails =
-          either (eqb (length line) 0)
-          (either (eqb (length line % 2) 1)
-          (either (ltb (2 * longestFrame) (length line)) (opposite (allDigits line))));
-      forms = [];
-    }
+    plain 1
+    (either (eqb (length line) 0)
+    (either (eqb (length line % 2) 1)
+    (either (ltb (2 * longestFrame) (length line)) (opposite (allDigits line)))))
 
 -- 2: "kind not in the table"
 abbrev pub isKind : ℕ → Check
-isKind k = record { number = 2; fails = opposite (known k); forms = [] }
+isKind k = plain 2 (opposite (known k))
 
 -- 3: "wrong length, n above 64, or a side bit at n or above"
 abbrev pub isFrame : List ℕ → Check
-isFrame f = record { number = 3; fails = opposite (fits f); forms = [] }
+isFrame f = plain 3 (opposite (fits f))
 
 -- 13: "not open, kind other than 10"
 abbrev pub isOpen : Registers → Check
-isOpen s = record { number = 13; fails = opposite (s .opened); forms = [] }
+isOpen s = plain 13 (opposite (s .opened))
 
 -- 14: "already open, kind 10"
 abbrev pub isShut : Registers → Check
-isShut s = record { number = 14; fails = s .opened; forms = [] }
+isShut s = plain 14 (s .opened)
 
 -- 12: "secret all zero"
 abbrev pub isSecret : Dig → Check
-isSecret k = record { number = 12; fails = allZero k; forms = [] }
+isSecret k = plain 12 (allZero k)
 
 -- 4: "q, A, A' or B' is 0"
 abbrev pub notZero : ℕ → Check
-notZero n = record { number = 4; fails = eqb n 0; forms = [] }
+notZero n = plain 4 (eqb n 0)
 
 -- 5: "malformed record"
 abbrev pub wellFormed : Record → Check
-wellFormed r = record { number = 5; fails = malformed r; forms = [] }
+wellFormed r = plain 5 (malformed r)
 
 -- 6: "place: A' not in the gap; ask: q neither A nor in the gap"
 abbrev pub inTheGap : (q A A′ : ℕ) → Check
-inTheGap q A A′ = record { number = 6; fails = opposite (inGap q A A′); forms = [] }
+inTheGap q A A′ = plain 6 (opposite (inGap q A A′))
 
 abbrev pub isOrInTheGap : (q A A′ : ℕ) → Check
-isOrInTheGap q A A′ = record { number = 6; fails = opposite (either (eqb q A) (inGap q A A′)); forms = [] }
+isOrInTheGap q A A′ = plain 6 (opposite (either (eqb q A) (inGap q A A′)))
 
 -- 11: "clear of an empty record"
 abbrev pub isRecorded : Record → Check
-isRecorded r = record { number = 11; fails = blank r; forms = [] }
+isRecorded r = plain 11 (blank r)
 
 -- 7: "set or clear with c at 2^64 - 1"
 abbrev pub top : ℕ
 top = 2 ^ 64 - 1
 
 abbrev pub belowTop : Registers → Check
-belowTop s = record { number = 7; fails = eqb (s .counter .0) top; forms = [] }
+belowTop s = plain 7 (eqb (s .counter .0) top)
 
 -- 10: "y, or for 0f zero, isn't the root: stale"
 abbrev pub isRoot : Registers → Dig → Check
-isRoot s y = record { number = 10; fails = opposite (same y (s .root)); forms = [] }
+isRoot s y = plain 10 (opposite (same y (s .root)))
 
 -- "The new record is [c+1, v2, v3, v4], or empty for clear."
-abbrev pub nextRecord : Registers → (v2 v3 v4 : ℕ) → Record
-nextRecord s v2 v3 v4 =
+abbrev pub nextRecord : Registers → Values → Record
+nextRecord s v =
     record {
       revision = record { 0 = s .counter .0 + 1 };
-      mass = record { 0 = v2 };
-      offset = record { 0 = v3 };
-      rigging = record { 0 = v4 };
+      mass = v .mass;
+      offset = v .offset;
+      rigging = v .rigging;
     }
 
 abbrev pub clearedRecord : Record
-clearedRecord =
-    record {
-      revision = record { 0 = 0 };
-      mass = record { 0 = 0 };
-      offset = record { 0 = 0 };
-      rigging = record { 0 = 0 };
-    }
+clearedRecord = emptyRecord
 
 -- Place: "x1 is leaf(A,A',ω), x1' is leaf(A,B',ω), x2 is leaf(A',B',0), x2' is 0"; the two orders
 abbrev pub placeForms : (A A′ B′ : ℕ) (ω : Dig) → List Str
 placeForms A A′ B′ ω = leaf A A′ ω ∷ leaf A B′ ω ∷ leaf A′ B′ nought ∷ []
 
+-- the memoranda that some checks compare
+abbrev pub compared : List Check → List Dig
+compared [] = []
+compared (c ∷ l) = c .compares ++ compared l
+
 module _ (D : List ℕ → Dig) where
   -- What a memorandum may say, in the order tried: whether none has the digest shown, and the strings formed
   abbrev pub noneFits : (secret : Dig) → List Memo → (m : Dig) → Bool
   noneFits k [] m = true
-  noneFits k (t ∷ l) m = pick (same (digest D (memo t k)) m) false (noneFits k l m)
+  noneFits k (t ∷ l) m = pick (same (memorandum D t k) m) false (noneFits k l m)
 
   abbrev pub tried : (secret : Dig) → List Memo → (m : Dig) → List Str
   tried k [] m = []
-  tried k (t ∷ l) m = memo t k ∷ pick (same (digest D (memo t k)) m) [] (tried k l m)
+  tried k (t ∷ l) m = memorandumForms D t k ++ pick (same (memorandum D t k) m) [] (tried k l m)
 
   -- 8 and 9: "first memorandum doesn't match", "second ..": with the strings formed for what it may say
   abbrev pub first-memo : (s : Registers) (before : List Str) (says : List Memo) (m : Dig) → Check
   first-memo s before says m =
-      record { number = 8; fails = noneFits (s .secret) says m; forms = before ++ tried (s .secret) says m }
+      record {
+        number = 8;
+        fails = noneFits (s .secret) says m;
+        forms = before ++ tried (s .secret) says m;
+        compares = m ∷ [];
+      }
 
   abbrev pub second-memo : (s : Registers) (says : Memo) (m : Dig) → Check
   second-memo s says m =
-      record { number = 9; fails = noneFits (s .secret) (says ∷ []) m; forms = tried (s .secret) (says ∷ []) m }
+      record {
+        number = 9;
+        fails = noneFits (s .secret) (says ∷ []) m;
+        forms = tried (s .secret) (says ∷ []) m;
+        compares = m ∷ [];
+      }
 
   -- ── the column "needs" ──
 
@@ -179,8 +191,8 @@ module _ (D : List ℕ → Dig) where
   needs s (turn x y m) = isOpen s ∷ first-memo s [] (ei x y ∷ []) m ∷ []
   needs s (chain x y m1 z m2) = isOpen s ∷ first-memo s [] (ei x y ∷ []) m1 ∷ second-memo s (ei y z) m2 ∷ []
   needs s (adopt y y′ m) = isOpen s ∷ first-memo s [] (ei y y′ ∷ []) m ∷ isRoot s y ∷ []
-  needs s (setTo A A′ old v2 v3 v4 y y′ m) =
-      let new = nextRecord s v2 v3 v4 in
+  needs s (setTo A A′ old v y y′ m) =
+      let new = nextRecord s v in
       isOpen s ∷ notZero A ∷ notZero A′ ∷ wellFormed old ∷ belowTop s
       ∷ first-memo s (changeForms A A′ old new) (changeSays A A′ old new y y′ ∷ []) m ∷ isRoot s y ∷ []
   needs s (clear A A′ old y y′ m) =
@@ -191,6 +203,10 @@ module _ (D : List ℕ → Dig) where
       ∷ first-memo s (leafForms A A′ r) (v1 (digest D (leafOf A A′ r)) y ∷ []) m ∷ isRoot s y ∷ []
   needs s (askNone q) = isOpen s ∷ notZero q ∷ isRoot s nought ∷ []
   needs s (unlock k) = isShut s ∷ isSecret k ∷ []
+
+  -- the memoranda that a request carries: those that its checks compare
+  abbrev pub carried : Registers → Request → List Dig
+  carried s q = compared (needs s q)
 
 -- ── the verdict: the first number of an order that applies ──
 

@@ -7,6 +7,7 @@ use lib.ListN.{length, getD, take, drop}
 use Rattle.seqs.specs.Choose.{both}
 use Rattle.seqs.specs.Bytes.{numberOf}
 use Rattle.paper.specs.declared.Record.{Record}
+use Rattle.paper.specs.declared.Values.{Values}
 use Rattle.paper.specs.Strings.{Dig}
 
 -- ── the column "kind": a request of each ──
@@ -22,7 +23,7 @@ pub data Request : Type 0 where
   turn : (x y m : Dig) → Request
   chain : (x y m1 z m2 : Dig) → Request
   adopt : (y y′ m : Dig) → Request
-  setTo : (A A′ : ℕ) (old : Record) (v2 v3 v4 : ℕ) (y y′ m : Dig) → Request
+  setTo : (A A′ : ℕ) (old : Record) (v : Values) (y y′ m : Dig) → Request
   clear : (A A′ : ℕ) (old : Record) (y y′ m : Dig) → Request
   ask : (q A A′ : ℕ) (r : Record) (y m : Dig) → Request
   askNone : (q : ℕ) → Request
@@ -30,11 +31,12 @@ pub data Request : Type 0 where
 
 -- ── the column "carries" ──
 
--- what a frame carries behind its kind: a number, a digest, a record, or a path's n, sides and siblings
+-- what a frame carries behind its kind: a number, a digest, a record, a set's values, or a path's n, sides and siblings
 pub data Carried : Type 0 where
   aNumber : Carried
   aDigest : Carried
   aRecord : Carried
+  theValues : Carried
   aPath : Carried
 
 abbrev four : List Carried
@@ -64,6 +66,15 @@ recordIn l =
       mass = record { 0 = numberOf (take 8 (drop 8 l)) };
       offset = record { 0 = numberOf (take 8 (drop 16 l)) };
       rigging = record { 0 = numberOf (take 8 (drop 24 l)) };
+    }
+
+-- "v2, v3, v4"
+abbrev pub valuesIn : List ℕ → Values
+valuesIn l =
+    record {
+      mass = record { 0 = numberOf (take 8 l) };
+      offset = record { 0 = numberOf (take 8 (drop 8 l)) };
+      rigging = record { 0 = numberOf (take 8 (drop 16 l)) };
     }
 
 -- a row: what the kind carries, and the request that its parts make, part i being the i-th thing carried
@@ -107,11 +118,8 @@ kinds =
     ∷ record { carries = aDigest ∷ aDigest ∷ aDigest ∷ []; reads = λ p. adopt (p 0) (p 1) (p 2) }
     -- 0c set: A, A', old record, v2, v3, v4, y, y', m
     ∷ record {
-      carries = aNumber ∷ aNumber ∷ aRecord ∷ aNumber ∷ aNumber ∷ aNumber ∷ aDigest ∷ aDigest ∷ aDigest ∷ [];
-      reads =
-          λ p.
-          setTo (numberOf (p 0)) (numberOf (p 1)) (recordIn (p 2)) (numberOf (p 3)) (numberOf (p 4)) (numberOf (p 5))
-          (p 6) (p 7) (p 8);
+      carries = aNumber ∷ aNumber ∷ aRecord ∷ theValues ∷ aDigest ∷ aDigest ∷ aDigest ∷ [];
+      reads = λ p. setTo (numberOf (p 0)) (numberOf (p 1)) (recordIn (p 2)) (valuesIn (p 3)) (p 4) (p 5) (p 6);
     }
     -- 0d clear: A, A', old record, y, y', m
     ∷ record {
@@ -149,6 +157,7 @@ abbrev pub takes : Carried → List ℕ → ℕ
 takes aNumber l = 8
 takes aDigest l = 32
 takes aRecord l = 32
+takes theValues l = 24
 takes aPath l = 9 + 32 * countIn l
 
 abbrev pub takesAll : List Carried → List ℕ → ℕ
@@ -166,6 +175,7 @@ abbrev pub sound : Carried → List ℕ → Bool
 sound aNumber l = true
 sound aDigest l = true
 sound aRecord l = true
+sound theValues l = true
 sound aPath l = both (leb (countIn l) mostSiblings) (eqb (sidesIn l / 2 ^ countIn l) 0)
 
 abbrev pub soundAll : List Carried → List ℕ → Bool

@@ -113,7 +113,17 @@ cost (s ∷ l) = blocks (lengthOf s) + cost l
 
 -- ── records ──
 
--- the empty record: v1 is 0
+-- the record of an item that has none: all its numbers are 0
+abbrev pub emptyRecord : Record
+emptyRecord =
+    record {
+      revision = record { 0 = 0 };
+      mass = record { 0 = 0 };
+      offset = record { 0 = 0 };
+      rigging = record { 0 = 0 };
+    }
+
+-- a record that stands for none: v1 is 0
 abbrev pub blank : Record → Bool
 blank r = eqb (r .revision .0) 0
 
@@ -144,6 +154,13 @@ module _ (D : List ℕ → Dig) where
   -- the digest of a string
   abbrev pub digest : Str → Dig
   digest s = D (enc s)
+
+  -- how a memorandum is made of what it says and the secret, and the strings formed for it: here and nowhere else
+  abbrev pub memorandum : Memo → (secret : Dig) → Dig
+  memorandum t k = digest (memo t k)
+
+  abbrev pub memorandumForms : Memo → (secret : Dig) → List Str
+  memorandumForms t k = memo t k ∷ []
 
   -- "Its hash is 0 if v1 is 0, else the digest"
   unfoldable pub recordHash : Record → Dig

@@ -21,6 +21,13 @@ pub struct Record {
     pub rigging: Rigging,
 }
 
+// What a set carries of the record that it leaves: all but the revision, which is the raised counter.
+pub struct Values {
+    pub mass: Kilograms,
+    pub offset: Millimetres,
+    pub rigging: Rigging,
+}
+
 // "Root (32 bytes, zero at first), change counter c (64 bits, zero at first), secret (32 bytes), open or not."
 pub struct Registers {
     pub root: [u8; 32],

@@ -6,8 +6,7 @@ use mathlib.Core.Logic.{_⊎_, inl, inr, _≢_}
 use borrow.Author.Tests.{ne-eqb}
 use Rattle.seqs.specs.Choose.{pick}
 use Rattle.paper.specs.declared.Record.{Record}
-use Rattle.paper.specs.Strings.{Dig, nought, Str, entry, blank}
-use Rattle.rings.specs.Changes.{emptyRecord}
+use Rattle.paper.specs.Strings.{Dig, nought, emptyRecord, Str, entry, blank}
 use Rattle.rings.proofs.Nodes.{_∈_, Within, Fault, vanishes, _>>=_, same-string}
 
 module _ (D : Str → Dig) where

@@ -6,10 +6,10 @@ use mathlib.Core.Logic.{_⊎_, inr}
 use Prim.Native.Nat.{ℕ, _+_, _<_}
 use native.Mathlib.Omega.{arith}
 use Rattle.paper.specs.declared.Record.{Record}
-use Rattle.paper.specs.Strings.{Dig, nought, Str, leaf}
+use Rattle.paper.specs.Strings.{Dig, nought, emptyRecord, Str, leaf}
 use Rattle.rings.specs.Trees.{Leaf, points, Tree, empty, tip, one, count}
 use Rattle.rings.specs.Lists.{Item, item, Ascending, Listed, insert, chainOf, ring}
-use Rattle.rings.specs.Changes.{emptyRecord, Step, insertion, removal, doSteps, reversed}
+use Rattle.rings.specs.Changes.{Step, insertion, removal, doSteps, reversed}
 use Rattle.rings.proofs.Counting.{one-self, count-nil, count-cons, count-only, count-single}
 use Rattle.rings.proofs.Nodes.{_∈_, Within, hash, TreeIn, Fault, _>>=_, no-leaf, only-leaf}
 use Rattle.rings.proofs.Align.{Two, align-two, paths-more}

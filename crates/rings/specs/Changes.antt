@@ -3,17 +3,8 @@
 use mathlib.Core.List.{List, [], _∷_, _++_}
 use Prim.Native.Nat.{ℕ, _<_}
 use Rattle.paper.specs.declared.Record.{Record}
+use Rattle.paper.specs.Strings.{emptyRecord}
 use Rattle.rings.specs.Lists.{Item, Listed, Unlisted, insert, remove}
-
--- the empty record: all its numbers are 0
-abbrev pub emptyRecord : Record
-emptyRecord =
-    record {
-      revision = record { 0 = 0 };
-      mass = record { 0 = 0 };
-      offset = record { 0 = 0 };
-      rigging = record { 0 = 0 };
-    }
 
 -- "first adds an empty item; place removes one"
 pub data Step : Type 0 where

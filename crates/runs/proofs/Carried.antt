@@ -10,12 +10,11 @@ use Rattle.seqs.specs.Bytes.{same, same-true}
 use Rattle.paper.specs.declared.Registers.{Registers}
 use Rattle.paper.specs.Strings.{Dig, Memo, Str, memo, digest}
 use Rattle.paper.specs.Requests.{Request}
-use Rattle.paper.specs.Refusals.{Check, noneFits, tried, needs}
+use Rattle.paper.specs.Refusals.{Check, noneFits, tried, needs, carried}
 use Rattle.paper.specs.Answers.{answer}
 use Rattle.rings.proofs.Nodes.{_∈_, Within, Fault, _>>=_, instead}
 use Rattle.rings.proofs.Memos.{Means}
 use Rattle.runs.specs.Run.{World, standsFor, isIssued}
-use Rattle.runs.specs.Endings.{carried}
 use Rattle.runs.proofs.Accepted.{NoneFails}
 use Rattle.runs.proofs.Widths.{Wide}
 use Rattle.runs.proofs.Book.{Book, look}
@@ -49,7 +48,7 @@ module _ (D : List ℕ → Dig) (w : World) where
 
   -- a memorandum that it carries was never issued
   abbrev pub Forgery : Request → Type 0
-  Forgery q = (m : Dig) × List·Memᴰ m (carried q) × (isIssued m (w .book) ≡ false)
+  Forgery q = (m : Dig) × List·Memᴰ m (carried D s q) × (isIssued m (w .book) ≡ false)
 
   module _ (G : List Str) where
     -- an accepted request, and its strings among G
@@ -64,13 +63,13 @@ module _ (D : List ℕ → Dig) (w : World) where
 
     module _ (b : Book D G (w .book)) where
       -- one that is the digest of a formed string
-      taken : (q : Request) (t : Memo) (m : Dig) → List·Memᴰ m (carried q) → memo t key ∈ G → digest D (memo t key) ≡ m
+      taken : (q : Request) (t : Memo) (m : Dig) → List·Memᴰ m (carried D s q) → memo t key ∈ G → digest D (memo t key) ≡ m
           → Or q (Means (digest D) G t (standsFor m (w .book)))
       taken q t m c i e =
           instead (λ x. elim x [ inl f ↦ inl f | inr u ↦ inr (m, c, u) ]) (look D m t key (w .book) b i e)
 
       -- one that a check asks to say t
-      pub means : (q : Request) (t : Memo) (m : Dig) → List·Memᴰ m (carried q) → memo t key ∈ G
+      pub means : (q : Request) (t : Memo) (m : Dig) → List·Memᴰ m (carried D s q) → memo t key ∈ G
           → noneFits D key (t ∷ []) m ≡ false → Or q (Means (digest D) G t (standsFor m (w .book)))
       means q t m c i h = by-test (same (digest D (memo t key)) m) refl h
         where
@@ -80,7 +79,7 @@ module _ (D : List ℕ → Dig) (w : World) where
           by-test false e h = absurd (true≢false h)
 
       -- or t or u, u being tried second
-      pub means-either : (q : Request) (t u : Memo) (m : Dig) → List·Memᴰ m (carried q) → Within (tried D key (t ∷ u ∷ []) m) G
+      pub means-either : (q : Request) (t u : Memo) (m : Dig) → List·Memᴰ m (carried D s q) → Within (tried D key (t ∷ u ∷ []) m) G
           → noneFits D key (t ∷ u ∷ []) m ≡ false
           → Or q (Means (digest D) G t (standsFor m (w .book)) ⊎ Means (digest D) G u (standsFor m (w .book)))
       means-either q t u m c i h = by-test (same (digest D (memo t key)) m) refl h i

@@ -10,12 +10,11 @@ use Rattle.hex.specs.Hex.{bytesOf, digitsOf}
 use Rattle.paper.specs.declared.Registers.{Registers}
 use Rattle.paper.specs.Strings.{Dig, Memo, Str, memo, digest}
 use Rattle.paper.specs.Requests.{Request, kindOf, known, fits, requestOf}
-use Rattle.paper.specs.Refusals.{replyRoom, noneFits, needs, passed, judge}
+use Rattle.paper.specs.Refusals.{replyRoom, noneFits, needs, passed, judge, carried}
 use Rattle.paper.specs.Answers.{Change, Answer, issue, answer}
 use Rattle.paper.specs.Module.{Told, told}
 use Rattle.rings.specs.Changes.{Step}
 use Rattle.runs.specs.Run.{Items, last, Issue, standsFor, isIssued, meaning, World, toldAt, landed, next}
-use Rattle.runs.specs.Endings.{carried}
 use Rattle.runs.specs.Frames.{written, frameOf, turnOf, turnsOf}
 use Rattle.runs.specs.Honest.{note}
 use Rattle.runs.specs.Liveness.{AllIssued, fed, Honest}
@@ -76,20 +75,20 @@ module _ (D : List ℕ → Dig) where
         ∙ ap (told D s (written q .kind) q) (judge-passed late [] (needs D s q) (all-pass late (needs D s q) n))
 
     -- the line is accepted and honest, and the world after it is the one that its answer leaves
-    pub leads-one : NoneFails (needs D s q) → AllIssued (carried q) (w .book)
+    pub leads-one : NoneFails (needs D s q) → AllIssued (carried D s q) (w .book)
         → Leads w (q ∷ []) (landed D last w (told D s (written q .kind) q (passed (formedAll late [] (needs D s q)))))
     leads-one n i =
         record {
           to = ap (landed D last w) (told-is n);
           fair = (
             ap (λ (a : Told). a .refusal) (told-is n),
-            subst (λ (p : Request). AllIssued (carried p) (w .book)) (sym asked-is) i,
+            subst (λ (p : Request). AllIssued (carried D s p) (w .book)) (sym asked-is) i,
             tt,
           );
         }
 
     -- a memorandum issued stands first in the book
-    pub issued-first : NoneFails (needs D s q) → AllIssued (carried q) (w .book)
+    pub issued-first : NoneFails (needs D s q) → AllIssued (carried D s q) (w .book)
         → (shown : List ℕ) (before : List Str) (t : Memo) (c : Change) → answer D s q ≡ issue D s shown before t c
         → (F : List Str)
         × Leads w (q ∷ []) (at w F (record { memorandum = note D s t; does = meaning (w .book) c } ∷ w .book))
@@ -157,7 +156,7 @@ module _ (D : List ℕ → Dig) where
 
   -- a line that issues
   pub say : (w : World) (q : Request) (shown : List ℕ) (before : List Str) (t : Memo) (c : Change) → Sendable q
-      → NoneFails (needs D (w .registers) q) → AllIssued (carried q) (w .book)
+      → NoneFails (needs D (w .registers) q) → AllIssued (carried D (w .registers) q) (w .book)
       → answer D (w .registers) q ≡ issue D (w .registers) shown before t c → Got w (q ∷ []) t
   say w q shown before t c ok n i e =
       let r = issued-first w q ok n i shown before t c e in

@@ -11,6 +11,7 @@ use lib.ListN.{length}
 use Rattle.seqs.specs.Choose.{pick, either, opposite, _and_}
 use Rattle.seqs.specs.Bytes.{same, allZero}
 use Rattle.paper.specs.declared.Record.{Record}
+use Rattle.paper.specs.declared.Values.{Values}
 use Rattle.paper.specs.declared.Registers.{Registers}
 use Rattle.paper.specs.Strings.{Dig, Memo, u1, v1, u2, ei, Str, node, entry, memo, enc, digest, WellFormed, blank, malformed, recordForms, parentForms, H, up, upForms, foldForms}
 use Rattle.paper.specs.Requests as Q
@@ -137,12 +138,12 @@ module _ (D : List ℕ → Dig) (D32 : (l : List ℕ) → length (D l) ≡ 32) w
       by-tests false true = refl
       by-tests false false = refl
 
-  at-top : (s : Registers) (kind A A′ : ℕ) (old : Record) (v2 v3 v4 : ℕ) (y y′ m : Dig) → eqb (s .counter .0) top ≡ true
-      → answered s kind (Q.setTo A A′ old v2 v3 v4 y y′ m) .formed ≡ []
-  at-top s kind A A′ old v2 v3 v4 y y′ m h = rw h (by-tests (s .opened) (eqb A 0) (eqb A′ 0) (malformed old))
+  at-top : (s : Registers) (kind A A′ : ℕ) (old : Record) (v : Values) (y y′ m : Dig) → eqb (s .counter .0) top ≡ true
+      → answered s kind (Q.setTo A A′ old v y y′ m) .formed ≡ []
+  at-top s kind A A′ old v y y′ m h = rw h (by-tests (s .opened) (eqb A 0) (eqb A′ 0) (malformed old))
     where
       by-tests : (o a b f : Bool)
-          → told D s kind (Q.setTo A A′ old v2 v3 v4 y y′ m)
+          → told D s kind (Q.setTo A A′ old v y y′ m)
           (pick (either (opposite o) false) (refused 13 [])
           (pick (either a (either b false)) (refused 4 []) (pick (either f false) (refused 5 []) (refused 7 [])))) .formed ≡ []
       by-tests false a b f = refl
@@ -215,16 +216,16 @@ module _ (D : List ℕ → Dig) (D32 : (l : List ℕ) → length (D l) ≡ 32) w
         tt and says (ei x y) m1 (w .0 and w .1 and k and tt) and says (ei y z) m2 (w .1 and w .2 and k and tt) and tt)
     forms (Q.adopt y y′ m) c w =
         of-checks (λ o. rw o refl) (λ k. tt and says (ei y y′) m (w .0 and w .1 and k and tt) and tt and tt)
-    forms (Q.setTo A A′ old v2 v3 v4 y y′ m) c w = by-counter (eqb (s .counter .0) top) refl
+    forms (Q.setTo A A′ old v y y′ m) c w = by-counter (eqb (s .counter .0) top) refl
       where
-        by-counter : (b : Bool) → eqb (s .counter .0) top ≡ b → Forms s (Q.setTo A A′ old v2 v3 v4 y y′ m)
-        by-counter true e = none-at-all (λ kind. at-top s kind A A′ old v2 v3 v4 y y′ m e)
+        by-counter : (b : Bool) → eqb (s .counter .0) top ≡ b → Forms s (Q.setTo A A′ old v y y′ m)
+        by-counter true e = none-at-all (λ kind. at-top s kind A A′ old v y y′ m e)
         by-counter false e =
-            let new = nextRecord s v2 v3 v4 in
-            let new-small : SmallRecord new = (below-top (s .counter .0) c e, w .3, w .4, w .5) in
+            let new = nextRecord s v in
+            let new-small : SmallRecord new = (below-top (s .counter .0) c e, w .3 .0, w .3 .1, w .3 .2) in
             of-checks (λ o. rw o refl) (λ k.
             tt and tt and tt and tt and tt
-            and says-change A A′ old new y y′ m (w .0) (w .1) (w .2) new-small (w .6) (w .7) k and tt and tt)
+            and says-change A A′ old new y y′ m (w .0) (w .1) (w .2) new-small (w .4) (w .5) k and tt and tt)
     forms (Q.clear A A′ old y y′ m) c w =
         of-checks (λ o. rw o refl) (λ k.
         let zeros : SmallRecord clearedRecord = (omega arith, omega arith, omega arith, omega arith) in
@@ -261,7 +262,7 @@ module _ (D : List ℕ → Dig) (D32 : (l : List ℕ) → length (D l) ≡ 32) w
     well-answer (Q.turn x y m) k w = (w .1 and w .0 and k and tt) and tt
     well-answer (Q.chain x y m1 z m2) k w = (w .0 and w .2 and k and tt) and tt
     well-answer (Q.adopt y y′ m) k w = tt
-    well-answer (Q.setTo A A′ old v2 v3 v4 y y′ m) k w = tt
+    well-answer (Q.setTo A A′ old v y y′ m) k w = tt
     well-answer (Q.clear A A′ old y y′ m) k w = tt
     well-answer (Q.ask q A A′ r y m) k w = tt
     well-answer (Q.askNone q) k w = tt

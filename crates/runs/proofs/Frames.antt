@@ -17,8 +17,9 @@ use Rattle.paper.specs.Requests as Q
 use Rattle.paper.specs.Requests.{Request, Carried, aDigest, sidesIn, Kind, kinds, kindOf, known, rowOf, takesAll, fits, requestOf}
 use Rattle.paper.specs.Refusals.{isHex}
 use Rattle.runs.specs.Frames.{together, pathBytes, written, frameOf}
+use Rattle.runs.specs.Wishes.{ValuesFit}
 use Rattle.runs.proofs.Widths.{Small, SmallRecord}
-use Rattle.runs.proofs.Parts.{AllDigests, ShapedAll, most, shaped-row, part-at, shaped-number, shaped-digest, shaped-record, sides-small, sides-back, shaped-path, siblings-back, record-back}
+use Rattle.runs.proofs.Parts.{AllDigests, ShapedAll, most, shaped-row, part-at, shaped-number, shaped-digest, shaped-record, shaped-values, sides-small, sides-back, shaped-path, siblings-back, record-back, values-back}
 
 -- ── requests that a line can carry ──
 
@@ -34,8 +35,8 @@ Sendable (Q.place A A′ B′ ω y y′ m) = Small A × Small A′ × Small B′
 Sendable (Q.turn x y m) = AllDigests (x ∷ y ∷ m ∷ [])
 Sendable (Q.chain x y m1 z m2) = AllDigests (x ∷ y ∷ m1 ∷ z ∷ m2 ∷ [])
 Sendable (Q.adopt y y′ m) = AllDigests (y ∷ y′ ∷ m ∷ [])
-Sendable (Q.setTo A A′ old v2 v3 v4 y y′ m) =
-    Small A × Small A′ × SmallRecord old × Small v2 × Small v3 × Small v4 × AllDigests (y ∷ y′ ∷ m ∷ [])
+Sendable (Q.setTo A A′ old v y y′ m) =
+    Small A × Small A′ × SmallRecord old × ValuesFit v × AllDigests (y ∷ y′ ∷ m ∷ [])
 Sendable (Q.clear A A′ old y y′ m) = Small A × Small A′ × SmallRecord old × AllDigests (y ∷ y′ ∷ m ∷ [])
 Sendable (Q.ask q A A′ r y m) = Small q × Small A × Small A′ × SmallRecord r × AllDigests (y ∷ m ∷ [])
 Sendable (Q.askNone q) = Small q
@@ -117,17 +118,14 @@ reads-back (Q.place A A′ B′ ω y y′ m) h =
 reads-back (Q.turn x y m) h = of-digests (Q.turn x y m) h refl refl refl
 reads-back (Q.chain x y m1 z m2) h = of-digests (Q.chain x y m1 z m2) h refl refl refl
 reads-back (Q.adopt y y′ m) h = of-digests (Q.adopt y y′ m) h refl refl refl
-reads-back (Q.setTo A A′ old v2 v3 v4 y y′ m) h =
+reads-back (Q.setTo A A′ old v y y′ m) h =
     let e₁ = number-be64 A (h .0) in
     let e₂ = number-be64 A′ (h .1) in
     let e₃ = record-back old (h .2) in
-    let e₄ = number-be64 v2 (h .3) in
-    let e₅ = number-be64 v3 (h .4) in
-    let e₆ = number-be64 v4 (h .5) in
-    by-row (Q.setTo A A′ old v2 v3 v4 y y′ m) refl
-    (shaped-number A and shaped-number A′ and shaped-record old and shaped-number v2 and shaped-number v3 and shaped-number v4
-    and shaped-digests (y ∷ y′ ∷ m ∷ []) (h .6))
-    (λ i. Q.setTo (e₁ i) (e₂ i) (e₃ i) (e₄ i) (e₅ i) (e₆ i) y y′ m)
+    let e₄ = values-back v (h .3) in
+    by-row (Q.setTo A A′ old v y y′ m) refl
+    (shaped-number A and shaped-number A′ and shaped-record old and shaped-values v and shaped-digests (y ∷ y′ ∷ m ∷ []) (h .4))
+    (λ i. Q.setTo (e₁ i) (e₂ i) (e₃ i) (e₄ i) y y′ m)
 reads-back (Q.clear A A′ old y y′ m) h =
     let e₁ = number-be64 A (h .0) in
     let e₂ = number-be64 A′ (h .1) in

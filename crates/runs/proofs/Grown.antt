@@ -8,8 +8,7 @@ use native.Mathlib.Omega.{arith}
 use borrow.Author.Tests.{eqb-true}
 use Rattle.seqs.specs.Choose.{pick}
 use Rattle.paper.specs.declared.Record.{Record}
-use Rattle.paper.specs.Strings.{Dig, nought, recordHash}
-use Rattle.paper.specs.Refusals.{clearedRecord}
+use Rattle.paper.specs.Strings.{Dig, nought, emptyRecord, recordHash}
 use Rattle.rings.specs.Trees.{Leaf, points, Tree, empty, tip, branch, leaves, one, count, Permuted}
 use Rattle.rings.specs.Lists.{Item, item, Listed, Unlisted, insert, remove, putRecord, ring}
 use Rattle.rings.proofs.Counting.{count-nil, count-append, count-only}
@@ -96,15 +95,15 @@ module _ {D : List ℕ → Dig} {w : World} {T : Tree} (g : Ground D w T) where
   -- ── insert ──
 
   pub with-holds : (A : ℕ) → 0 < A → Unlisted A (w .items)
-      → Permuted (leaves (treeWith D A T (w .items))) (ring (recordHash D) (insert A clearedRecord (w .items)))
+      → Permuted (leaves (treeWith D A T (w .items))) (ring (recordHash D) (insert A emptyRecord (w .items)))
   unfolding insert
   with-holds A positive free v = by-items (w .items) refl
     where
-      alone : w .items ≡ [] → count v (points A A nought ∷ []) ≡ count v (ring (recordHash D) (insert A clearedRecord (w .items)))
+      alone : w .items ≡ [] → count v (points A A nought ∷ []) ≡ count v (ring (recordHash D) (insert A emptyRecord (w .items)))
       alone e = rw (e, no-record-hash D) refl
 
       beside : has (gapHolds A) T ≡ true → (i : Item Record) (l : Items)
-          → count v (leaves (treeWith D A T (i ∷ l))) ≡ count v (ring (recordHash D) (insert A clearedRecord (w .items)))
+          → count v (leaves (treeWith D A T (i ∷ l))) ≡ count v (ring (recordHash D) (insert A emptyRecord (w .items)))
       beside have i l =
           let t = spotted g (gapHolds A) have in
           let x = found (gapHolds A) T in
@@ -113,9 +112,9 @@ module _ {D : List ℕ → Dig} {w : World} {T : Tree} (g : Ground D w T) where
           let x-is = leaf-is x B B′ (hashIn x) refl refl refl in
           let a = points B A (hashIn x) in
           let b = points A B′ nought in
-          let b-is : points A B′ (recordHash D clearedRecord) ≡ b = ap (points A B′) (no-record-hash D) in
+          let b-is : points A B′ (recordHash D emptyRecord) ≡ b = ap (points A B′) (no-record-hash D) in
           let on = subst (InRing D w) x-is (t .in-ring) in
-          let c = insert-ring (recordHash D) A B B′ (hashIn x) clearedRecord (w .items) (g .ascending)
+          let c = insert-ring (recordHash D) A B B′ (hashIn x) emptyRecord (w .items) (g .ascending)
           (gap-holds A B B′ (t .passes)) on v in
           omega (
             arith,
@@ -130,17 +129,17 @@ module _ {D : List ℕ → Dig} {w : World} {T : Tree} (g : Ground D w T) where
           )
 
       by-items : (l : Items) → w .items ≡ l
-          → count v (leaves (treeWith D A T l)) ≡ count v (ring (recordHash D) (insert A clearedRecord (w .items)))
+          → count v (leaves (treeWith D A T l)) ≡ count v (ring (recordHash D) (insert A emptyRecord (w .items)))
       by-items [] e = alone e
       by-items (item a r ∷ l) e = beside (gap-found g A a r l positive free e) (item a r) l
 
   -- ── remove ──
 
-  pub without-holds : (A : ℕ) → Listed A clearedRecord (w .items)
+  pub without-holds : (A : ℕ) → Listed A emptyRecord (w .items)
       → Permuted (leaves (treeWithout D A T (w .items))) (ring (recordHash D) (remove A (w .items)))
   without-holds A m v = by-items (w .items) refl
     where
-      only : (a : ℕ) (r : Record) → w .items ≡ item a r ∷ [] → (item A clearedRecord ≡ item a r) ⊎ Listed A clearedRecord []
+      only : (a : ℕ) (r : Record) → w .items ≡ item a r ∷ [] → (item A emptyRecord ≡ item a r) ⊎ Listed A emptyRecord []
           → count v [] ≡ count v (ring (recordHash D) (remove A (w .items)))
       only a r e (inl p) =
           let q : A ≡ a = cc in

@@ -11,7 +11,7 @@ use Rattle.seqs.specs.Bytes.{Bytes, be32}
 use Rattle.sha256.specs.Hash.{sha256}
 use Rattle.sha256.proofs.Digests.{sha256-length}
 use Rattle.paper.specs.declared.Registers.{Registers}
-use Rattle.paper.specs.Strings.{Dig, recordHash}
+use Rattle.paper.specs.Strings.{Dig, emptyRecord, recordHash}
 use Rattle.paper.specs.Refusals.{top, nextRecord, clearedRecord}
 use Rattle.rings.specs.Trees.{Tree, leaves, hashOf, Permuted}
 use Rattle.rings.specs.Lists.{Ascending, ring}
@@ -68,17 +68,17 @@ module _ (D : List ℕ → Dig) (D32 : (l : List ℕ) → length (D l) ≡ 32) (
     granted : (x : Wish) → Legal (w .items) x → Granted D w T x
     granted (insertItem A) h =
         grants (insertItem A) (w .changed) (insert-brings g A (h .1) (h .0) (h .2)) refl (g .counter)
-        (insert-ascending 0 A clearedRecord (w .items) (h .0) (h .2) (g .ascending)) (with-holds g A (h .0) (h .2)) tt
+        (insert-ascending 0 A emptyRecord (w .items) (h .0) (h .2) (g .ascending)) (with-holds g A (h .0) (h .2)) tt
     granted (removeItem A) h =
         grants (removeItem A) (w .changed) (remove-brings g A h) refl (g .counter)
         (remove-ascending 0 A (w .items) (g .ascending)) (without-holds g A h) tt
     granted (swapPlaces A B) h =
         grants (swapPlaces A B) (w .changed) (swap-brings g A B (h .0) (h .1) (h .2)) refl (g .counter)
         (g .ascending) (swapped-holds g A B (h .0) (h .1) (h .2)) tt
-    granted (setRecord A v2 v3 v4) h =
-        let new = nextRecord s v2 v3 v4 in
-        grants (setRecord A v2 v3 v4) (w .changed + 1)
-        (set-brings g A v2 v3 v4 (h .0 .0) (h .0 .1) (h .1) (h .2) (h .3) below) refl
+    granted (setRecord A v) h =
+        let new = nextRecord s v in
+        grants (setRecord A v) (w .changed + 1)
+        (set-brings g A v (h .0 .0) (h .0 .1) (h .1) below) refl
         (ap (λ (n : ℕ). n + 1) (g .counter)) (put-ascending 0 A new (w .items) (g .ascending))
         (rewritten-holds g A (h .0 .0) new (h .0 .1)) tt
     granted (clearRecord A) h =

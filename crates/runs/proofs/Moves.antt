@@ -8,9 +8,9 @@ use borrow.Author.Tests.{eqb-true}
 use Rattle.seqs.specs.Choose.{pick, _and_}
 use Rattle.paper.specs.declared.Record.{Record}
 use Rattle.paper.specs.declared.Registers.{Registers}
-use Rattle.paper.specs.Strings.{Dig, nought, u2, leaf, digest, recordHash, H}
+use Rattle.paper.specs.Strings.{Dig, nought, emptyRecord, u2, leaf, digest, recordHash, H}
 use Rattle.paper.specs.Requests as Q
-use Rattle.paper.specs.Refusals.{clearedRecord, noneFits}
+use Rattle.paper.specs.Refusals.{noneFits}
 use Rattle.paper.specs.Answers as Does
 use Rattle.paper.specs.Answers.{rooted}
 use Rattle.rings.specs.Trees.{points, Tree, tip, branch, hashOf}
@@ -113,7 +113,7 @@ module _ {D : List ℕ → Dig} {w : World} {T : Tree} (g : Ground D w T) where
 
   -- into the empty list
   insert-first : (A : ℕ) → Small A → 0 < A → w .items ≡ []
-      → Brings D w (insertLines D s A T []) (rooted s (alone D s A .becomes)) (insert A clearedRecord (w .items)) (w .changed)
+      → Brings D w (insertLines D s A T []) (rooted s (alone D s A .becomes)) (insert A emptyRecord (w .items)) (w .changed)
   insert-first A small positive e =
       let root : nought ≡ s .root = sym (none-hash D T (λ x. g .holds x ∙ rw e (count-nil x))) ∙ g .root in
       adopt-last (g .ready) (Q.first A ∷ []) (alone D s A) (insertion A ∷ []) (alone-is (g .ready) A) root
@@ -122,7 +122,7 @@ module _ {D : List ℕ → Dig} {w : World} {T : Tree} (g : Ground D w T) where
   -- beside the leaf whose gap holds A
   insert-beside : (A : ℕ) → Small A → 0 < A → has (gapHolds A) T ≡ true → (i : Item Record) (l : Items)
       → Brings D w (insertLines D s A T (i ∷ l)) (rooted s (hashOf D (treeWith D A T (i ∷ l))))
-      (insert A clearedRecord (w .items))
+      (insert A emptyRecord (w .items))
       (w .changed)
   insert-beside A small positive have i l =
       let t = spotted g (gapHolds A) have in
@@ -157,12 +157,12 @@ module _ {D : List ℕ → Dig} {w : World} {T : Tree} (g : Ground D w T) where
 
   pub insert-brings : (A : ℕ) → Small A → 0 < A → Unlisted A (w .items)
       → Brings D w (insertLines D s A T (w .items)) (rooted s (hashOf D (treeWith D A T (w .items))))
-      (insert A clearedRecord (w .items))
+      (insert A emptyRecord (w .items))
       (w .changed)
   insert-brings A small positive free = by-items (w .items) refl
     where
       by-items : (l : Items) → w .items ≡ l
-          → Brings D w (insertLines D s A T l) (rooted s (hashOf D (treeWith D A T l))) (insert A clearedRecord (w .items))
+          → Brings D w (insertLines D s A T l) (rooted s (hashOf D (treeWith D A T l))) (insert A emptyRecord (w .items))
           (w .changed)
       by-items [] e = insert-first A small positive e
       by-items (item a r ∷ l) e = insert-beside A small positive (gap-found A a r l positive free e) (item a r) l

@@ -12,9 +12,11 @@ use lib.Seq.{take-at, drop-at}
 use Rattle.seqs.specs.Choose.{_and_}
 use Rattle.seqs.specs.Bytes.{Bytes, be64, numberOf, number-be64, be64-length}
 use Rattle.paper.specs.declared.Record.{Record}
+use Rattle.paper.specs.declared.Values.{Values}
 use Rattle.paper.specs.Strings.{Dig}
-use Rattle.paper.specs.Requests.{Carried, aNumber, aDigest, aRecord, aPath, sidesIn, digestsIn, siblingsIn, recordIn, takes, takesAll, part, sound, soundAll}
-use Rattle.runs.specs.Frames.{together, recordBytes, pathBytes}
+use Rattle.paper.specs.Requests.{Carried, aNumber, aDigest, aRecord, theValues, aPath, sidesIn, digestsIn, siblingsIn, recordIn, valuesIn, takes, takesAll, part, sound, soundAll}
+use Rattle.runs.specs.Frames.{together, recordBytes, valuesBytes, pathBytes}
+use Rattle.runs.specs.Wishes.{ValuesFit}
 use Rattle.runs.proofs.Widths.{Is32, Small, SmallRecord}
 
 -- ── bytes ──
@@ -128,6 +130,24 @@ shaped-record r =
       short = omega (arith, record-long r);
     }
 
+values-long : (v : Values) → length (valuesBytes v) ≡ 24
+values-long v =
+    let a = v .mass .0 in
+    let b = v .offset .0 in
+    let c = v .rigging .0 in
+    simp (length-append, be64-length) (omega arith)
+
+pub shaped-values : (v : Values) → Shaped theValues (valuesBytes v)
+shaped-values v =
+    record {
+      bytes =
+          bytes-append (be64 _) _ (be64-bytes _)
+          (bytes-append (be64 _) _ (be64-bytes _) (bytes-append (be64 _) _ (be64-bytes _) tt));
+      long = λ rest. sym (values-long v);
+      fair = λ rest. refl;
+      short = omega (arith, values-long v);
+    }
+
 together-long : (l : List Dig) → AllDigests l → length (together l) ≡ 32 * length l
 together-long [] h = refl
 together-long (d ∷ l) h = omega (arith, h .0 .wide, together-long l (h .1), length-append d (together l))
@@ -165,6 +185,14 @@ digests-back (d ∷ l) h =
 
 pub siblings-back : (sides : ℕ) (l : List Dig) → AllDigests l → siblingsIn (pathBytes sides l) ≡ l
 siblings-back sides l h = rw (drop-at (be64 sides) (together l) 8 (be64-length sides)) (digests-back l h)
+
+pub values-back : (v : Values) → ValuesFit v → valuesIn (valuesBytes v) ≡ v
+unfolding be64
+values-back v h =
+    let a : numberOf (take 8 (valuesBytes v)) ≡ v .mass .0 = number-be64 (v .mass .0) (h .0) in
+    let b : numberOf (take 8 (drop 8 (valuesBytes v))) ≡ v .offset .0 = number-be64 (v .offset .0) (h .1) in
+    let c : numberOf (take 8 (drop 16 (valuesBytes v))) ≡ v .rigging .0 = number-be64 (v .rigging .0) (h .2) in
+    λ i. record { mass = record { 0 = a i }; offset = record { 0 = b i }; rigging = record { 0 = c i } }
 
 pub record-back : (r : Record) → SmallRecord r → recordIn (recordBytes r) ≡ r
 unfolding be64

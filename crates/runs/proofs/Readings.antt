@@ -2,7 +2,7 @@
 -- registers and strings, both keep the invariant, and so, the root settling the list, they have one list.
 use mathlib.Core.Path.{_≡_, refl, sym, ap, subst, _∙_}
 use mathlib.Core.Bool.{Bool, true, false}
-use mathlib.Core.List.{List, [], _∷_, _++_, reverseAux}
+use mathlib.Core.List.{List, [], _∷_, _++_, reverseAux, List·Memᴰ}
 use mathlib.Core.Logic.{_⊎_, inl, inr}
 use Prim.Native.Nat.{ℕ}
 use lib.ListN.{length}
@@ -10,6 +10,7 @@ use Rattle.seqs.specs.Choose.{either}
 use Rattle.seqs.specs.Bytes.{same}
 use Rattle.paper.specs.declared.Registers.{Registers}
 use Rattle.paper.specs.Strings.{Dig, Str, digest}
+use Rattle.paper.specs.Refusals.{carried}
 use Rattle.paper.specs.Answers.{Effect, none′, issues, adopts, changes}
 use Rattle.paper.specs.Module.{Told, answerTo}
 use Rattle.rings.proofs.Nodes.{Fault, _>>=_, instead}
@@ -110,7 +111,7 @@ module _ (D : List ℕ → Dig) (D32 : (l : List ℕ) → length (D l) ≡ 32) w
           inl (forged t (record {
             accepted = ap (λ (y : Told). y .refusal) (sym (told-alike D v (after D k ts) t a)) ∙ x .0;
             memorandum = x .1 .0;
-            carries = x .1 .1;
+            carries = subst (λ (r : Registers). List·Memᴰ (x .1 .0) (carried D r (asked t))) (a .registers) (x .1 .1);
             unissued = sym (a .issued (x .1 .0)) ∙ x .1 .2;
           }))
       by-out (inr x) = inr (x .0)

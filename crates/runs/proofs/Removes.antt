@@ -12,9 +12,8 @@ use Rattle.seqs.specs.Choose.{pick}
 use Rattle.seqs.specs.Bytes.{allZero}
 use Rattle.paper.specs.declared.Record.{Record}
 use Rattle.paper.specs.declared.Registers.{Registers}
-use Rattle.paper.specs.Strings.{Dig, nought, leaf, node, digest, inGap, recordHash, H}
+use Rattle.paper.specs.Strings.{Dig, nought, emptyRecord, leaf, node, digest, inGap, recordHash, H}
 use Rattle.paper.specs.Requests as Q
-use Rattle.paper.specs.Refusals.{clearedRecord}
 use Rattle.paper.specs.Answers.{rooted}
 use Rattle.rings.specs.Trees.{Leaf, points, Tree, empty, tip, branch, leaves, hashOf, one, count}
 use Rattle.rings.specs.Lists.{Item, item, Listed, remove, ring}
@@ -78,7 +77,7 @@ module _ (D : List ℕ → Dig) where
           let z = none-in l (omega arith) (λ x. omega (arith, sum x)) in
           behind-nought (hashOf D l) (hashOf D r) (none-hash D l z) (wide r) ∙ v (λ x. omega (arith, sum x, z x))
 
-  pub no-record-hash : recordHash D clearedRecord ≡ nought
+  pub no-record-hash : recordHash D emptyRecord ≡ nought
   unfolding recordHash
   no-record-hash = refl
 
@@ -91,10 +90,10 @@ module _ {D : List ℕ → Dig} {w : World} {T : Tree} (g : Ground D w T) where
 
   -- ── the only item ──
 
-  remove-only : (A a : ℕ) (r : Record) → Listed A clearedRecord (w .items) → w .items ≡ item a r ∷ []
+  remove-only : (A a : ℕ) (r : Record) → Listed A emptyRecord (w .items) → w .items ≡ item a r ∷ []
       → Brings D w (removeLines D s A T (item a r ∷ [])) (rooted s nought) (remove A (w .items)) (w .changed)
   remove-only A a r m e =
-      let d = g .decent A clearedRecord m in
+      let d = g .decent A emptyRecord m in
       let y = points A A nought in
       let only : (x : Leaf) → count x (leaves T) ≡ one x y =
       λ x. g .holds x ∙ ap (λ (l : Items). count x (ring (recordHash D) l)) e ∙ single x in
@@ -107,10 +106,10 @@ module _ {D : List ℕ → Dig} {w : World} {T : Tree} (g : Ground D w T) where
     where
       single : (x : Leaf) → count x (points a a (recordHash D r) ∷ []) ≡ one x (points A A nought)
       single x =
-          let p : item A clearedRecord ≡ item a r =
+          let p : item A emptyRecord ≡ item a r =
           elim (List·Memᴰ·cases-cons (rw e at m)) [ inl p ↦ p | inr j ↦ elim j [ ] ] in
           let q : A ≡ a = cc in
-          let u : clearedRecord ≡ r = cc in
+          let u : emptyRecord ≡ r = cc in
           let v : recordHash D r ≡ nought = ap (recordHash D) (sym u) ∙ no-record-hash D in
           count-only x (points A A nought) _ (λ i. points (sym q i) (sym q i) (v i) ∷ [])
 
@@ -126,10 +125,10 @@ module _ {D : List ℕ → Dig} {w : World} {T : Tree} (g : Ground D w T) where
     pub apart : itemOf (found (leadsTo A) T) ≢ A
     pub gap : inGap A (itemOf (found (leadsTo A) T)) (nextOf (found (isOf A) T)) ≡ true
 
-  linked : (A : ℕ) → Near A (recordHash D clearedRecord) (ring (recordHash D) (w .items)) → Linked A
+  linked : (A : ℕ) → Near A (recordHash D emptyRecord) (ring (recordHash D) (w .items)) → Linked A
   linked A n =
       let hx = spot-by g (leadsTo A) (points (n .a) A (n .w)) (eq-eqb A A refl) (n .on) in
-      let hz = spot-by g (isOf A) (points A (n .b) (recordHash D clearedRecord)) (eq-eqb A A refl) (n .next) in
+      let hz = spot-by g (isOf A) (points A (n .b) (recordHash D emptyRecord)) (eq-eqb A A refl) (n .next) in
       let tx = spotted g (leadsTo A) hx in
       let tz = spotted g (isOf A) hz in
       let x = found (leadsTo A) T in
@@ -138,7 +137,7 @@ module _ {D : List ℕ → Dig} {w : World} {T : Tree} (g : Ground D w T) where
       let z-item : A ≡ itemOf z = eqb-true A _ (tz .passes) in
       let x-is : x ≡ points (n .a) A (n .w) =
       one-to-item (recordHash D) x _ (w .items) (g .ascending) (sym x-next) (tx .in-ring) (n .on) in
-      let z-is : z ≡ points A (n .b) (recordHash D clearedRecord) =
+      let z-is : z ≡ points A (n .b) (recordHash D emptyRecord) =
       one-of-item (recordHash D) z _ (w .items) (g .ascending) (sym z-item) (tz .in-ring) (n .next) in
       record {
         before = hx;
@@ -151,10 +150,10 @@ module _ {D : List ℕ → Dig} {w : World} {T : Tree} (g : Ground D w T) where
       }
 
   -- where another item is listed too
-  pub linked-in : (A a b : ℕ) (r t : Record) (l : Items) → Listed A clearedRecord (w .items) → w .items ≡ item a r ∷ item b t ∷ l
+  pub linked-in : (A a b : ℕ) (r t : Record) (l : Items) → Listed A emptyRecord (w .items) → w .items ≡ item a r ∷ item b t ∷ l
       → Linked A
   linked-in A a b r t l m e =
-      let n = near (recordHash D) A clearedRecord a r b t l (rw e at (g .ascending)) (rw e at m) in
+      let n = near (recordHash D) A emptyRecord a r b t l (rw e at (g .ascending)) (rw e at m) in
       linked A (rw e n)
 
   -- two leaves, under one fork
@@ -164,7 +163,7 @@ module _ {D : List ℕ → Dig} {w : World} {T : Tree} (g : Ground D w T) where
   pub fork-of : (A : ℕ) (k : Linked A) → Forks (forkOf (leadsTo A) (isOf A) T) (found (leadsTo A) T) (found (isOf A) T) T
   fork-of A k = forked (leadsTo A) (isOf A) T (k .before) (k .own) (other-leaf A k)
 
-  remove-between : (A : ℕ) → Listed A clearedRecord (w .items) → Linked A → (i j : Item Record) (l : Items)
+  remove-between : (A : ℕ) → Listed A emptyRecord (w .items) → Linked A → (i j : Item Record) (l : Items)
       → Brings D w (removeLines D s A T (i ∷ j ∷ l)) (rooted s (hashOf D (treeWithout D A T (i ∷ j ∷ l)))) (remove A (w .items))
       (w .changed)
   remove-between A m k i j l =
@@ -176,7 +175,7 @@ module _ {D : List ℕ → Dig} {w : World} {T : Tree} (g : Ground D w T) where
       let B′ = nextOf z in
       let ω = hashIn x in
       let dB = g .decent B (tx .held) (tx .listed) in
-      let dA = g .decent A clearedRecord m in
+      let dA = g .decent A emptyRecord m in
       let hω = subst IsDigest (tx .hash-is) (record-digest DD (tx .held)) in
       let f = forkOf (leadsTo A) (isOf A) T in
       let y = without D s f B A B′ ω in
@@ -197,7 +196,7 @@ module _ {D : List ℕ → Dig} {w : World} {T : Tree} (g : Ground D w T) where
       brings-also D refl (ap (rooted s) shrunk) refl
       (adopt-last (g .ready) (placed D s f B A B′ ω) y (removal A ∷ []) (without-is (g .ready) f B A B′ ω) root h)
 
-  pub remove-brings : (A : ℕ) → Listed A clearedRecord (w .items)
+  pub remove-brings : (A : ℕ) → Listed A emptyRecord (w .items)
       → Brings D w (removeLines D s A T (w .items)) (rooted s (hashOf D (treeWithout D A T (w .items)))) (remove A (w .items))
       (w .changed)
   remove-brings A m = by-items (w .items) refl

@@ -12,11 +12,12 @@ use lib.ListN.{length}
 use Rattle.seqs.specs.Choose.{pick, either, opposite}
 use Rattle.seqs.specs.Bytes.{same, same-true}
 use Rattle.paper.specs.declared.Record.{Record}
+use Rattle.paper.specs.declared.Values.{Values}
 use Rattle.paper.specs.declared.Registers.{Registers}
-use Rattle.paper.specs.Strings.{Dig, nought, Memo, u1, v1, u2, ei, Str, leaf, memo, digest, malformed, blank, recordForms, inGap, parentForms, foldForms}
+use Rattle.paper.specs.Strings.{Dig, nought, emptyRecord, Memo, u1, v1, u2, ei, Str, leaf, memo, digest, malformed, blank, recordForms, inGap, parentForms, foldForms}
 use Rattle.paper.specs.Requests as Q
 use Rattle.paper.specs.Requests.{Request}
-use Rattle.paper.specs.Refusals.{Check, nextRecord, clearedRecord, placeForms, placeSays, noneFits, tried, leafOf, leafForms, changeForms, changeSays, needs, passed}
+use Rattle.paper.specs.Refusals.{Check, nextRecord, clearedRecord, placeForms, placeSays, noneFits, tried, leafOf, leafForms, changeForms, changeSays, needs, passed, carried}
 use Rattle.paper.specs.Answers.{Change, none′, issues, changes, answer, findingOf}
 use Rattle.paper.specs.Module.{Told, told}
 use Rattle.paper.specs.declared.Finding.the-variants.{Recorded, Listed, Gap}
@@ -31,7 +32,6 @@ use Rattle.rings.proofs.TreeKinds as T
 use Rattle.rings.proofs.RingKinds as R
 use Rattle.rings.proofs.InPaper as P
 use Rattle.runs.specs.Run.{Reading, Items, standsFor, meaning, World, landed}
-use Rattle.runs.specs.Endings.{carried}
 use Rattle.runs.specs.Safety.{TrueFinding, TrueAnswer, LegalEffect}
 use Rattle.runs.proofs.Book.{entered-none, Book, book-more, book-enter}
 use Rattle.runs.proofs.Accepted.{opposite-false}
@@ -39,14 +39,14 @@ use Rattle.runs.proofs.Carried as C
 use Rattle.runs.proofs.Carried.{at0, at1, at2, at5, at6, Given, Or}
 
 -- a well formed record with revision 0 is the empty one
-blank-empty : (r : Record) → blank r ≡ true → malformed r ≡ false → r ≡ clearedRecord
+blank-empty : (r : Record) → blank r ≡ true → malformed r ≡ false → r ≡ emptyRecord
 unfolding recordForms
 blank-empty r e ok = by-known (known-by (λ s. []) [] r ok no-forms)
   where
     no-forms : Within (recordForms r) []
     no-forms = rw e (λ s i. i)
 
-    by-known : Known (λ s. []) [] r → r ≡ clearedRecord
+    by-known : Known (λ s. []) [] r → r ≡ emptyRecord
     by-known (known-empty p) = p
     by-known (known-recorded n m) = absurd (n (eqb-true (r .revision .0) 0 e))
 
@@ -127,7 +127,7 @@ module _ (D : List ℕ → Dig) (D32 : (l : List ℕ) → length (D l) ≡ 32) w
     at-root y h = v .root ∙ sym (same-true y (s .root) (opposite-false (same y (s .root)) h))
 
     -- a memorandum that a check c asks to say t
-    means : {q : Request} (g : GivenTo q) (t : Memo) (m : Dig) → List·Memᴰ m (carried q) → {c : Check} → List·Memᴰ c (needs D s q)
+    means : {q : Request} (g : GivenTo q) (t : Memo) (m : Dig) → List·Memᴰ m (carried D s q) → {c : Check} → List·Memᴰ c (needs D s q)
         → memo t key ∈ c .forms → noneFits D key (t ∷ []) m ≡ false → Or D w (G q) q (Means dig (G q) t (standsFor m (w .book)))
     means {q} g t m i {c} j k h = C.means D w (G q) (backed q) q t m i (g .of-check c j _ k) h
 
@@ -152,7 +152,7 @@ module _ (D : List ℕ → Dig) (D32 : (l : List ℕ) → length (D l) ≡ 32) w
         )
 
     -- a record that changes
-    changed : {q : Request} (g : GivenTo q) (A A′ : ℕ) (old new : Record) (y y′ m : Dig) → List·Memᴰ m (carried q)
+    changed : {q : Request} (g : GivenTo q) (A A′ : ℕ) (old new : Record) (y y′ m : Dig) → List·Memᴰ m (carried D s q)
         → Within (changeForms D A A′ old new ++ tried D key (changeSays D A A′ old new y y′ ∷ []) m) (G q)
         → malformed old ≡ false → malformed new ≡ false
         → noneFits D key (changeSays D A A′ old new y y′ ∷ []) m ≡ false → opposite (same y (s .root)) ≡ false
@@ -176,12 +176,12 @@ module _ (D : List ℕ → Dig) (D32 : (l : List ℕ) → length (D l) ≡ 32) w
       )
 
     -- a set's new record has a revision above 0
-    set-recorded : (v2 v3 v4 : ℕ) → blank (nextRecord s v2 v3 v4) ≡ false
-    set-recorded v2 v3 v4 = ne-eqb (s .counter .0 + 1) 0 (λ z. omega arith)
+    set-recorded : (v : Values) → blank (nextRecord s v) ≡ false
+    set-recorded v = ne-eqb (s .counter .0 + 1) 0 (λ z. omega arith)
 
-    set-sound : (v2 v3 v4 : ℕ) → malformed (nextRecord s v2 v3 v4) ≡ false
+    set-sound : (v : Values) → malformed (nextRecord s v) ≡ false
     unfolding malformed
-    set-sound v2 v3 v4 = rw (set-recorded v2 v3 v4) refl
+    set-sound v = rw (set-recorded v) refl
 
     cleared-sound : malformed clearedRecord ≡ false
     unfolding malformed
@@ -250,10 +250,10 @@ module _ (D : List ℕ → Dig) (D32 : (l : List ℕ) → length (D l) ≡ 32) w
         tt,
         p .legal,
       )
-    accepted (Q.setTo A A′ old v2 v3 v4 y y′ m) g =
+    accepted (Q.setTo A A′ old v y y′ m) g =
         let h = g .none-fails .1 .1 .1 in
-        changed g A A′ old (nextRecord s v2 v3 v4) y y′ m at0 (g .of-check _ at5) (h .0) (set-sound v2 v3 v4) (h .1 .1 .0)
-        (h .1 .1 .1 .0) refl refl refl tt (λ e. absurd (true≢false (sym e ∙ set-recorded v2 v3 v4)))
+        changed g A A′ old (nextRecord s v) y y′ m at0 (g .of-check _ at5) (h .0) (set-sound v) (h .1 .1 .0)
+        (h .1 .1 .1 .0) refl refl refl tt (λ e. absurd (true≢false (sym e ∙ set-recorded v)))
     accepted (Q.clear A A′ old y y′ m) g =
         let h = g .none-fails .1 .1 .1 in
         changed g A A′ old clearedRecord y y′ m at0 (g .of-check _ at6) (h .0) cleared-sound (h .1 .1 .1 .0) (h .1 .1 .1 .1 .0)

@@ -9,6 +9,7 @@ use lib.Dec.{eqb}
 use Rattle.seqs.specs.Choose.{opposite, _and_}
 use Rattle.seqs.specs.Bytes.{same}
 use Rattle.paper.specs.declared.Record.{Record}
+use Rattle.paper.specs.declared.Values.{Values}
 use Rattle.paper.specs.declared.Registers.{Registers}
 use Rattle.paper.specs.Strings.{Dig, blank, recordHash}
 use Rattle.paper.specs.Requests as Q
@@ -20,7 +21,7 @@ use Rattle.runs.specs.Run.{World}
 use Rattle.runs.specs.Ways.{nextOf, isOf, found, wayTo, rise, Edit, risen}
 use Rattle.runs.specs.Outcomes.{treeRewritten}
 use Rattle.runs.specs.Honest.{recordOf, sayU1, note, onePlace, rewritten, setLines, clearLines}
-use Rattle.runs.proofs.Widths.{Small}
+use Rattle.runs.specs.Wishes.{ValuesFit}
 use Rattle.runs.proofs.Parts.{IsDigest, AllDigests}
 use Rattle.runs.proofs.Climbs.{rise-digest}
 use Rattle.runs.proofs.Places.{rise-plug, located, regrown-one}
@@ -88,16 +89,16 @@ module _ {D : List ℕ → Dig} {w : World} {T : Tree} (g : Ground D w T) where
   not-at-top : (c : ℕ) → c < top → eqb c top ≡ false
   not-at-top c h = ne-eqb c top (λ e. omega arith)
 
-  pub set-brings : (A v2 v3 v4 : ℕ) (r : Record) → Listed A r (w .items) → Small v2 → Small v3 → Small v4 → s .counter .0 < top
-      → Brings D w (setLines D s A v2 v3 v4 T (w .items)) (raised s (hashOf D (treeRewritten D A (nextRecord s v2 v3 v4) T)))
-      (putRecord A (nextRecord s v2 v3 v4) (w .items)) (w .changed + 1)
-  set-brings A v2 v3 v4 r m s2 s3 s4 below =
-      let u = rewrites A r (nextRecord s v2 v3 v4) m in
+  pub set-brings : (A : ℕ) (v : Values) (r : Record) → Listed A r (w .items) → ValuesFit v → s .counter .0 < top
+      → Brings D w (setLines D s A v T (w .items)) (raised s (hashOf D (treeRewritten D A (nextRecord s v) T)))
+      (putRecord A (nextRecord s v) (w .items)) (w .changed + 1)
+  set-brings A v r m fit below =
+      let u = rewrites A r (nextRecord s v) m in
       let h = u .lines in
       brings-also D refl (ap (raised s) (u .new-root)) refl
       (brings D (leads-on D (h .leads)
-      (leads-one D (at w (h .formed) (h .book)) (Q.setTo A _ _ v2 v3 v4 _ _ _)
-      (u .item .small, u .spot .next-small, u .item .small-record, s2, s3, s4, u .digests)
+      (leads-one D (at w (h .formed) (h .book)) (Q.setTo A _ _ v _ _ _)
+      (u .item .small, u .spot .next-small, u .item .small-record, fit, u .digests)
       (is-open (g .ready) and u .numbered and u .next-numbered and u .item .sound and not-at-top (s .counter .0) below
       and u .fits and u .at-root and tt)
       (h .got, tt))))

@@ -57,7 +57,7 @@ module _ (D : List ℕ → Dig) (D32 : (l : List ℕ) → length (D l) ≡ 32) w
   left s (Q.turn x y m) h w = stays s (s .root) (h .0)
   left s (Q.chain x y m1 z m2) h w = stays s (s .root) (h .0)
   left s (Q.adopt y y′ m) h w = stays s y′ (h .0)
-  left s (Q.setTo A A′ old v2 v3 v4 y y′ m) h w = raises s y′ (h .0) (h .1 .1 .1 .1 .0)
+  left s (Q.setTo A A′ old v y y′ m) h w = raises s y′ (h .0) (h .1 .1 .1 .1 .0)
   left s (Q.clear A A′ old y y′ m) h w = raises s y′ (h .0) (h .1 .1 .1 .1 .1 .0)
   left s (Q.ask q A A′ r y m) h w = stays s (s .root) (h .0)
   left s (Q.askNone q) h w = stays s (s .root) (h .0)

@@ -14,7 +14,8 @@ use Rattle.paper.specs.declared.Record.{Record}
 use Rattle.paper.specs.Strings.{Dig}
 use Rattle.rings.proofs.Paths.{AllWide}
 use Rattle.paper.specs.Requests as Q
-use Rattle.paper.specs.Requests.{Request, Carried, aNumber, aDigest, aRecord, aPath, countIn, digestsIn, siblingsIn, recordIn, Kind, kinds, kindOf, known, rowOf, takes, takesAll, part, fits, requestOf}
+use Rattle.paper.specs.Requests.{Request, Carried, aNumber, aDigest, aRecord, theValues, aPath, countIn, digestsIn, siblingsIn, recordIn, valuesIn, Kind, kinds, kindOf, known, rowOf, takes, takesAll, part, fits, requestOf}
+use Rattle.runs.specs.Wishes.{ValuesFit}
 
 -- ── widths ──
 
@@ -41,8 +42,7 @@ Wide (Q.place A A′ B′ ω y y′ m) = Small A × Small A′ × Small B′ × 
 Wide (Q.turn x y m) = Is32 x × Is32 y
 Wide (Q.chain x y m1 z m2) = Is32 x × Is32 y × Is32 z
 Wide (Q.adopt y y′ m) = Is32 y × Is32 y′
-Wide (Q.setTo A A′ old v2 v3 v4 y y′ m) =
-    Small A × Small A′ × SmallRecord old × Small v2 × Small v3 × Small v4 × Is32 y × Is32 y′
+Wide (Q.setTo A A′ old v y y′ m) = Small A × Small A′ × SmallRecord old × ValuesFit v × Is32 y × Is32 y′
 Wide (Q.clear A A′ old y y′ m) = Small A × Small A′ × SmallRecord old × Is32 y × Is32 y′
 Wide (Q.ask q A A′ r y m) = Small q × Small A × Small A′ × SmallRecord r × Is32 y
 Wide (Q.askNone q) = Small q
@@ -88,18 +88,24 @@ abbrev Sized : Carried → List ℕ → Type 0
 Sized aNumber b = Small (numberOf b)
 Sized aDigest b = Is32 b
 Sized aRecord b = SmallRecord (recordIn b)
+Sized theValues b = ValuesFit (valuesIn b)
 Sized aPath b = AllWide (siblingsIn b)
+
+-- any number within some of the bytes
+number-within : (w : ℕ) (l : List ℕ) → Bytes l → w ≤ length l → (i : ℕ) → i + 8 ≤ w → Small (numberOf (take 8 (drop i (take w l))))
+number-within w l h n i j =
+    number-small (drop i (take w l)) (bytes-drop i (take w l) (bytes-take w l h))
+    (omega (arith, length-drop i (take w l), length-take-le w l n))
 
 sized : (c : Carried) (l : List ℕ) → Bytes l → takes c l ≤ length l → Sized c (take (takes c l) l)
 sized aNumber l h n = number-small l h n
 sized aDigest l h n = length-take-le 32 l n
 sized aRecord l h n =
-    let b : List ℕ = take 32 l in
-    let hb = bytes-take 32 l h in
-    let nb : length b ≡ 32 = length-take-le 32 l n in
-    let at : (i : ℕ) → i + 8 ≤ 32 → Small (numberOf (take 8 (drop i b))) =
-    λ i j. number-small (drop i b) (bytes-drop i b hb) (omega (arith, length-drop i b)) in
-    (number-small b hb (omega arith), at 8 (omega arith), at 16 (omega arith), at 24 (omega arith))
+    let at : (i : ℕ) → i + 8 ≤ 32 → Small (numberOf (take 8 (drop i (take 32 l)))) = number-within 32 l h n in
+    (at 0 (omega arith), at 8 (omega arith), at 16 (omega arith), at 24 (omega arith))
+sized theValues l h n =
+    let at : (i : ℕ) → i + 8 ≤ 24 → Small (numberOf (take 8 (drop i (take 24 l)))) = number-within 24 l h n in
+    (at 0 (omega arith), at 8 (omega arith), at 16 (omega arith))
 sized aPath l h n =
     let w : ℕ = 9 + 32 * countIn l in
     let e : countIn (take w l) ≡ countIn l = getD-take w l 0 0 (omega arith) in
@@ -145,7 +151,7 @@ rows =
     and (λ p h. (h 0, h 1))
     and (λ p h. (h 0, h 1, h 3))
     and (λ p h. (h 0, h 1))
-    and (λ p h. (h 0, h 1, h 2, h 3, h 4, h 5, h 6, h 7))
+    and (λ p h. (h 0, h 1, h 2, h 3, h 4, h 5))
     and (λ p h. (h 0, h 1, h 2, h 3, h 4))
     and (λ p h. (h 0, h 1, h 2, h 3, h 4))
     and (λ p h. h 0)

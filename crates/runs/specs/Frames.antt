@@ -7,6 +7,7 @@ use lib.ListN.{length}
 use Rattle.seqs.specs.Bytes.{be64}
 use Rattle.hex.specs.Hex.{digitsOf}
 use Rattle.paper.specs.declared.Record.{Record}
+use Rattle.paper.specs.declared.Values.{Values}
 use Rattle.paper.specs.Strings.{Dig, numbers, nums, spread}
 use Rattle.paper.specs.Requests.{Request, path, witness, join, pair, raise, swap, first, place, turn, chain, adopt, setTo, clear, ask, askNone, unlock}
 use Rattle.paper.specs.Refusals.{replyRoom}
@@ -17,9 +18,12 @@ abbrev pub together : List (List ℕ) → List ℕ
 together [] = []
 together (p ∷ ps) = p ++ together ps
 
--- a record's four numbers; a path's "n (1 byte), sides (8), n siblings"
+-- a record's four numbers; a set's three; a path's "n (1 byte), sides (8), n siblings"
 abbrev pub recordBytes : Record → List ℕ
 recordBytes r = spread (nums (numbers r))
+
+abbrev pub valuesBytes : Values → List ℕ
+valuesBytes v = spread (nums (v .mass .0 ∷ v .offset .0 ∷ v .rigging .0 ∷ []))
 
 abbrev pub pathBytes : (sides : ℕ) → List Dig → List ℕ
 pathBytes sides l = length l ∷ (be64 sides ++ together l)
@@ -44,11 +48,8 @@ written (place A A′ B′ ω y y′ m) =
 written (turn x y m) = record { kind = 0x09; parts = x ∷ y ∷ m ∷ [] }
 written (chain x y m1 z m2) = record { kind = 0x0a; parts = x ∷ y ∷ m1 ∷ z ∷ m2 ∷ [] }
 written (adopt y y′ m) = record { kind = 0x0b; parts = y ∷ y′ ∷ m ∷ [] }
-written (setTo A A′ old v2 v3 v4 y y′ m) =
-    record {
-      kind = 0x0c;
-      parts = be64 A ∷ be64 A′ ∷ recordBytes old ∷ be64 v2 ∷ be64 v3 ∷ be64 v4 ∷ y ∷ y′ ∷ m ∷ [];
-    }
+written (setTo A A′ old v y y′ m) =
+    record { kind = 0x0c; parts = be64 A ∷ be64 A′ ∷ recordBytes old ∷ valuesBytes v ∷ y ∷ y′ ∷ m ∷ [] }
 written (clear A A′ old y y′ m) =
     record { kind = 0x0d; parts = be64 A ∷ be64 A′ ∷ recordBytes old ∷ y ∷ y′ ∷ m ∷ [] }
 written (ask q A A′ r y m) =

@@ -6,7 +6,8 @@ use lib.Dec.{eqb}
 use Rattle.seqs.specs.Choose.{pick}
 use Rattle.paper.specs.declared.Record.{Record}
 use Rattle.paper.specs.declared.Registers.{Registers}
-use Rattle.paper.specs.Strings.{Dig, nought, Memo, u1, v1, u2, ei, leaf, memo, digest}
+use Rattle.paper.specs.declared.Values.{Values}
+use Rattle.paper.specs.Strings.{Dig, nought, Memo, u1, v1, u2, ei, leaf, emptyRecord, digest, memorandum}
 use Rattle.paper.specs.Requests.{Request, path, witness, join, pair, raise, swap, first, place, turn, adopt, setTo, clear, ask, askNone, mostSiblings}
 use Rattle.paper.specs.Refusals.{nextRecord, clearedRecord, leafOf}
 use Rattle.rings.specs.Trees.{Tree, tip, hashOf}
@@ -17,7 +18,7 @@ use Rattle.runs.specs.Ways.{itemOf, nextOf, hashIn, isOf, leadsTo, gapHo
 
 -- the record of item A in the list
 abbrev pub recordOf : (A : ℕ) → Items → Record
-recordOf A [] = clearedRecord
+recordOf A [] = emptyRecord
 recordOf A (item a r ∷ l) = pick (eqb A a) r (recordOf A l)
 
 -- ── what memoranda say, of digests that change ──
@@ -42,7 +43,7 @@ module _ (D : List ℕ → Dig) (s : Registers) where
   -- the memorandum that says t, as this module issues it. A tablet has no secret: it copies the memorandum out of the reply
   -- that issued it, and that one did is `AllIssued`
   abbrev pub note : Memo → Dig
-  note t = digest D (memo t (s .secret))
+  note t = memorandum D t (s .secret)
 
   -- ── U1 up a way of any length ──
 
@@ -166,12 +167,12 @@ module _ (D : List ℕ → Dig) (s : Registers) where
       let A′ = nextOf (found (isOf A) T) in
       record { was = digest D (leafOf D A A′ (recordOf A l)); becomes = digest D (leafOf D A A′ new) }
 
-  abbrev pub setLines : (A v2 v3 v4 : ℕ) → Tree → Items → List Request
-  setLines A v2 v3 v4 T l =
-      let x = rewritten A (nextRecord s v2 v3 v4) T l in
+  abbrev pub setLines : (A : ℕ) (v : Values) → Tree → Items → List Request
+  setLines A v T l =
+      let x = rewritten A (nextRecord s v) T l in
       let y = risen D (wayTo (isOf A) T) x in
       let A′ = nextOf (found (isOf A) T) in
-      onePlace (wayTo (isOf A) T) x ++ (setTo A A′ (recordOf A l) v2 v3 v4 (y .was) (y .becomes) (note (sayU1 x y)) ∷ [])
+      onePlace (wayTo (isOf A) T) x ++ (setTo A A′ (recordOf A l) v (y .was) (y .becomes) (note (sayU1 x y)) ∷ [])
 
   abbrev pub clearLines : (A : ℕ) → Tree → Items → List Request
   clearLines A T l =
@@ -203,6 +204,6 @@ module _ (D : List ℕ → Dig) (s : Registers) where
   honestLines T l (insertItem A) = insertLines A T l
   honestLines T l (removeItem A) = removeLines A T l
   honestLines T l (swapPlaces A B) = swapLines A B T
-  honestLines T l (setRecord A v2 v3 v4) = setLines A v2 v3 v4 T l
+  honestLines T l (setRecord A v) = setLines A v T l
   honestLines T l (clearRecord A) = clearLines A T l
   honestLines T l (askAbout q) = askLines q T l

@@ -12,11 +12,11 @@ use Rattle.hex.specs.Hex.{bytesOf}
 use Rattle.paper.specs.declared.Finding.{Finding}
 use Rattle.paper.specs.Strings.{Dig}
 use Rattle.paper.specs.Requests.{requestOf}
-use Rattle.paper.specs.Refusals.{top}
+use Rattle.paper.specs.Refusals.{top, carried}
 use Rattle.paper.specs.Answers.{findingBytes}
 use Rattle.rings.specs.Trees.{Tree, hashOf}
 use Rattle.runs.specs.Run.{Turn, Items, last, Issue, isIssued, World, toldAt, next, after}
-use Rattle.runs.specs.Endings.{carried, Ending}
+use Rattle.runs.specs.Endings.{Ending}
 use Rattle.runs.specs.Safety.{Stands, TrueFinding}
 use Rattle.runs.specs.Frames.{turnsOf}
 use Rattle.runs.specs.Wishes.{Wish, insertItem, removeItem, swapPlaces, setRecord, clearRecord, askAbout, Legal}
@@ -50,7 +50,7 @@ module _ (D : List ℕ → Dig) where
   abbrev pub Honest : World → List Turn → Type 0
   Honest w [] = Unit {0}
   Honest w (t ∷ ts) =
-      (toldAt D w t .refusal ≡ 0) × AllIssued (carried (requestOf (bytesOf (t .line)))) (w .book) × Honest (next D last w t) ts
+      (toldAt D w t .refusal ≡ 0) × AllIssued (carried D (w .registers) (requestOf (bytesOf (t .line)))) (w .book) × Honest (next D last w t) ts
 
   -- the reply to the last of them, as bytes
   abbrev pub lastReply : World → List Turn → List ℕ
@@ -70,7 +70,7 @@ module _ (D : List ℕ → Dig) where
   Answered (insertItem A) l says = Unit {0}
   Answered (removeItem A) l says = Unit {0}
   Answered (swapPlaces A B) l says = Unit {0}
-  Answered (setRecord A v2 v3 v4) l says = Unit {0}
+  Answered (setRecord A v) l says = Unit {0}
   Answered (clearRecord A) l says = Unit {0}
   Answered (askAbout q) l says = TrueReply q l says
 

@@ -4,7 +4,7 @@ use mathlib.Core.List.{List, [], _∷_}
 use Prim.Native.Nat.{ℕ}
 use Rattle.paper.specs.declared.Record.{Record}
 use Rattle.paper.specs.declared.Registers.{Registers}
-use Rattle.paper.specs.Strings.{Dig, nought, recordHash}
+use Rattle.paper.specs.Strings.{Dig, nought, emptyRecord, recordHash}
 use Rattle.paper.specs.Refusals.{nextRecord, clearedRecord}
 use Rattle.paper.specs.Answers.{rooted, raised}
 use Rattle.rings.specs.Trees.{points, Tree, empty, tip, branch}
@@ -15,10 +15,10 @@ use Rattle.runs.specs.Ways.{itemOf, nextOf, hashIn, isOf, leadsTo, gapHo
 
 -- the list: "the new record is [c+1, v2, v3, v4], or empty for clear"
 abbrev pub itemsAfter : Registers → Items → Wish → Items
-itemsAfter s l (insertItem A) = insert A clearedRecord l
+itemsAfter s l (insertItem A) = insert A emptyRecord l
 itemsAfter s l (removeItem A) = remove A l
 itemsAfter s l (swapPlaces A B) = l
-itemsAfter s l (setRecord A v2 v3 v4) = putRecord A (nextRecord s v2 v3 v4) l
+itemsAfter s l (setRecord A v) = putRecord A (nextRecord s v) l
 itemsAfter s l (clearRecord A) = putRecord A clearedRecord l
 itemsAfter s l (askAbout q) = l
 
@@ -27,7 +27,7 @@ abbrev pub registersAfter : Registers → (y : Dig) → Wish → Registers
 registersAfter s y (insertItem A) = rooted s y
 registersAfter s y (removeItem A) = rooted s y
 registersAfter s y (swapPlaces A B) = rooted s y
-registersAfter s y (setRecord A v2 v3 v4) = raised s y
+registersAfter s y (setRecord A v) = raised s y
 registersAfter s y (clearRecord A) = raised s y
 registersAfter s y (askAbout q) = s
 
@@ -66,6 +66,6 @@ module _ (D : List ℕ → Dig) where
   treeAfter s T l (insertItem A) = treeWith A T l
   treeAfter s T l (removeItem A) = treeWithout A T l
   treeAfter s T l (swapPlaces A B) = treeSwapped A B T
-  treeAfter s T l (setRecord A v2 v3 v4) = treeRewritten A (nextRecord s v2 v3 v4) T
+  treeAfter s T l (setRecord A v) = treeRewritten A (nextRecord s v) T
   treeAfter s T l (clearRecord A) = treeRewritten A clearedRecord T
   treeAfter s T l (askAbout q) = T

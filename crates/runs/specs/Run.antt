@@ -6,7 +6,7 @@ use Rattle.seqs.specs.Choose.{pick, either}
 use Rattle.seqs.specs.Bytes.{same}
 use Rattle.paper.specs.declared.Record.{Record}
 use Rattle.paper.specs.declared.Registers.{Registers}
-use Rattle.paper.specs.Strings.{Dig, Str, memo, digest}
+use Rattle.paper.specs.Strings.{Dig, Str, memorandum}
 use Rattle.paper.specs.Answers as Does
 use Rattle.paper.specs.Answers.{Change, Effect, none′, issues, adopts, changes}
 use Rattle.paper.specs.Module.{unopened, Told, answerTo}
@@ -76,7 +76,7 @@ module _ (D : List ℕ → Dig) where
   abbrev pub issuedBy : World → Effect → List Issue
   issuedBy w none′ = []
   issuedBy w (issues t c) =
-      record { memorandum = digest D (memo t (w .registers .secret)); does = meaning (w .book) c } ∷ []
+      record { memorandum = memorandum D t (w .registers .secret); does = meaning (w .book) c } ∷ []
   issuedBy w (adopts m) = []
   issuedBy w (changes A r) = []
 

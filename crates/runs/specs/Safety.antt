@@ -10,9 +10,8 @@ use Rattle.hex.specs.Hex.{bytesOf}
 use Rattle.paper.specs.declared.Record.{Record}
 use Rattle.paper.specs.declared.Finding.{Finding}
 use Rattle.paper.specs.declared.Finding.the-variants.{Recorded, Listed as Empty, Gap}
-use Rattle.paper.specs.Strings.{Dig, blank, inGap, recordHash}
+use Rattle.paper.specs.Strings.{Dig, emptyRecord, blank, inGap, recordHash}
 use Rattle.paper.specs.Requests.{Request, path, witness, join, pair, raise, swap, first, place, turn, chain, adopt, setTo, clear, ask, askNone, unlock, kindOf, requestOf}
-use Rattle.paper.specs.Refusals.{clearedRecord}
 use Rattle.paper.specs.Answers.{Effect, none′, issues, adopts, changes, findingOf, answer}
 use Rattle.paper.specs.Module.{unopened}
 use Rattle.rings.specs.Trees.{Tree, points, leaves, hashOf, Permuted}
@@ -38,7 +37,7 @@ module _ (D : List ℕ → Dig) where
   -- "every accepted answer on a record, an empty item or a gap is true of that list"
   abbrev pub TrueFinding : (q : ℕ) → Finding → Items → Type 0
   TrueFinding q (Recorded A r) l = (q ≡ A .0) × (blank r ≡ false) × Listed (A .0) r l
-  TrueFinding q (Empty A) l = (q ≡ A .0) × Listed (A .0) clearedRecord l
+  TrueFinding q (Empty A) l = (q ≡ A .0) × Listed (A .0) emptyRecord l
   TrueFinding q (Gap A A′) l = (inGap q (A .0) (A′ .0) ≡ true) × Unlisted q l × Neighbours (A .0) (A′ .0) l
 
   abbrev pub TrueAnswer : Request → Items → Type 0
@@ -53,7 +52,7 @@ module _ (D : List ℕ → Dig) where
   TrueAnswer (turn x y m) l = Unit {0}
   TrueAnswer (chain x y m1 z m2) l = Unit {0}
   TrueAnswer (adopt y y′ m) l = Unit {0}
-  TrueAnswer (setTo A A′ old v2 v3 v4 y y′ m) l = Unit {0}
+  TrueAnswer (setTo A A′ old v y y′ m) l = Unit {0}
   TrueAnswer (clear A A′ old y y′ m) l = Unit {0}
   TrueAnswer (ask q A A′ r y m) l = TrueFinding q (findingOf q A A′ r) l
   TrueAnswer (askNone q) l = l ≡ []

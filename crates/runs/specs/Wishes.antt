@@ -5,8 +5,8 @@ use mathlib.Core.Bool.{false}
 use mathlib.Core.Logic.{_≢_}
 use Prim.Native.Nat.{ℕ, _<_, _^_}
 use Rattle.paper.specs.declared.Record.{Record}
-use Rattle.paper.specs.Strings.{blank}
-use Rattle.paper.specs.Refusals.{clearedRecord}
+use Rattle.paper.specs.declared.Values.{Values}
+use Rattle.paper.specs.Strings.{emptyRecord, blank}
 use Rattle.rings.specs.Lists.{Listed, Unlisted}
 use Rattle.runs.specs.Run.{Items}
 
@@ -14,13 +14,16 @@ pub data Wish : Type 0 where
   insertItem : (A : ℕ) → Wish
   removeItem : (A : ℕ) → Wish
   swapPlaces : (A B : ℕ) → Wish
-  setRecord : (A v2 v3 v4 : ℕ) → Wish
+  setRecord : (A : ℕ) (v : Values) → Wish
   clearRecord : (A : ℕ) → Wish
   askAbout : (q : ℕ) → Wish
 
 -- "Numbers are 8 bytes"
 abbrev pub InEightBytes : ℕ → Type 0
 InEightBytes n = n < 2 ^ 64
+
+abbrev pub ValuesFit : Values → Type 0
+ValuesFit v = InEightBytes (v .mass .0) × InEightBytes (v .offset .0) × InEightBytes (v .rigging .0)
 
 abbrev pub IsListed : (A : ℕ) → Items → Type 0
 IsListed A l = (r : Record) × Listed A r l
@@ -29,8 +32,8 @@ IsListed A l = (r : Record) × Listed A r l
 -- to set a listed item, to clear a recorded one"; "every question on a number above 0"
 abbrev pub Legal : Items → Wish → Type 0
 Legal l (insertItem A) = (0 < A) × InEightBytes A × Unlisted A l
-Legal l (removeItem A) = Listed A clearedRecord l
+Legal l (removeItem A) = Listed A emptyRecord l
 Legal l (swapPlaces A B) = (A ≢ B) × IsListed A l × IsListed B l
-Legal l (setRecord A v2 v3 v4) = IsListed A l × InEightBytes v2 × InEightBytes v3 × InEightBytes v4
+Legal l (setRecord A v) = IsListed A l × ValuesFit v
 Legal l (clearRecord A) = (r : Record) × Listed A r l × (blank r ≡ false)
 Legal l (askAbout q) = (0 < q) × InEightBytes q
