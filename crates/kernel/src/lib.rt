@@ -10,6 +10,7 @@ use paper::Record;
 use paper::Registers;
 use paper::Revision;
 use paper::Rigging;
+use paper::Values;
 use replies::Outcome;
 ghost use mathlib.Core.Bool.{true};
 ghost use mathlib.Core.Path.{_≡_};
@@ -17,7 +18,7 @@ ghost use Prim.Native.Nat.{_*_, _≤_};
 ghost use lib.ListN.{getD, take};
 ghost use Rattle.seqs.specs.Bytes.{numberOf};
 ghost use Rattle.sha256.specs.Hash.{sha256};
-ghost use Rattle.paper.specs.Requests.{recordIn, digestsIn, kindOf, known, fits, requestOf};
+ghost use Rattle.paper.specs.Requests.{recordIn, valuesIn, digestsIn, kindOf, known, fits, requestOf};
 ghost use Rattle.paper.specs.Module.{answerFrame};
 ghost use Rattle.replies.specs.Outcomes.{outcomeOf, outcome};
 ghost use Rattle.kernel.specs.Places.{bytesAt, requestAt};
@@ -37,6 +38,17 @@ fn record_at(f: &[u8], at: usize) -> Record
         mass: Kilograms(number_at(f, at + 8)),
         offset: Millimetres(number_at(f, at + 16)),
         rigging: Rigging(number_at(f, at + 24)),
+    }
+}
+
+fn values_at(f: &[u8], at: usize) -> Values
+    requires { ⌜ at ≤ 2122 ⌝ }
+    ensures { λ r. ⌜ r ≡ valuesIn (bytesAt (now (f .entry)) at 24) ⌝ }
+{
+    Values {
+        mass: Kilograms(number_at(f, at)),
+        offset: Millimetres(number_at(f, at + 8)),
+        rigging: Rigging(number_at(f, at + 16)),
     }
 }
 
@@ -191,9 +203,7 @@ fn set_record(r: Registers, f: &[u8]) -> Outcome
         item_at(f, 1),
         item_at(f, 9),
         record_at(f, 17),
-        Kilograms(number_at(f, 49)),
-        Millimetres(number_at(f, 57)),
-        Rigging(number_at(f, 65)),
+        values_at(f, 49),
         digest_at(f, 73),
         digest_at(f, 105),
         digest_at(f, 137),

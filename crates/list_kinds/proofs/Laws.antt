@@ -35,7 +35,7 @@ record-cost r e = omega (arith, blocks-of e, record-by r (blank r))
 -- the check of a memorandum behind other strings, from the digest that was worked for all of them
 pub made : (before : List Str) (t : Str) (m : Dig) {u : Digest} {r b : Bool}
     → u ≡ worked (digest sha256 t) (before ++ (t ∷ [])) → r ≡ same (u .bytes) m → not r ≡ b
-    → Made (comparing 8 before t (same (digest sha256 t) m)) b 0 (u .blocks)
+    → Made (comparing 8 before t m (same (digest sha256 t) m)) b 0 (u .blocks)
 made before t m e h k =
     let p = compared {number = 8} {n = 0} before t m (bytes-of e) h k in
     record { fails = p .fails; count = omega (arith, blocks-of e, p .count) }

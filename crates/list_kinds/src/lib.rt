@@ -9,6 +9,7 @@ use paper::Record;
 use paper::Registers;
 use paper::Revision;
 use paper::Rigging;
+use paper::Values;
 use replies::Outcome;
 ghost use mathlib.Core.Path.{_≡_};
 ghost use mathlib.Core.List.{[], _∷_, _++_};
@@ -147,14 +148,12 @@ pub fn set_record(
     a: Item,
     b: Item,
     old: Record,
-    v2: Kilograms,
-    v3: Millimetres,
-    v4: Rigging,
+    v: Values,
     y: [u8; 32],
     yn: [u8; 32],
     m: [u8; 32],
 ) -> Outcome
-    ensures { λ o. ⌜ o ≡ outcome r 12 (Q.setTo (a .0) (b .0) old (v2 .0) (v3 .0) (v4 .0) y yn m) ⌝ }
+    ensures { λ o. ⌜ o ≡ outcome r 12 (Q.setTo (a .0) (b .0) old v y yn m) ⌝ }
 {
     if !r.opened {
         return replies::refuse(r, 13, 0);
@@ -173,11 +172,14 @@ pub fn set_record(
         return replies::refuse(r, 7, 0);
     }
     let cn = c.0 + 1;
+    let mass = v.mass;
+    let offset = v.offset;
+    let rigging = v.rigging;
     let new = Record {
         revision: Revision(cn),
-        mass: v2,
-        offset: v3,
-        rigging: v4,
+        mass: mass,
+        offset: offset,
+        rigging: rigging,
     };
     let k = r.secret;
     let u = change_memo(k, a, b, old, new, y, yn);

@@ -14,7 +14,7 @@ use Rattle.sha256.proofs.Digests.{sha256-length}
 use Rattle.paper.specs.declared.Registers.{Registers}
 use Rattle.paper.specs.Strings.{Dig, Str, enc, digest, cost}
 use Rattle.paper.specs.Requests as Q
-use Rattle.paper.specs.Refusals.{Check, order, needs, Verdict, refused, passed, judge}
+use Rattle.paper.specs.Refusals.{Check, plain, order, needs, Verdict, refused, passed, judge}
 use Rattle.paper.specs.Answers.{answer}
 use Rattle.paper.specs.Module.{told}
 use Rattle.paper.proofs.Ceilings.{cost-append}
@@ -44,7 +44,7 @@ walked s (Q.place A A′ B′ ω y y′ m) = simp (either-no, pick-either)
 walked s (Q.turn x y m) = simp either-no
 walked s (Q.chain x y m1 z m2) = simp either-no
 walked s (Q.adopt y y′ m) = simp either-no
-walked s (Q.setTo A A′ old v2 v3 v4 y y′ m) = simp (either-no, pick-either)
+walked s (Q.setTo A A′ old v y y′ m) = simp (either-no, pick-either)
 walked s (Q.clear A A′ old y y′ m) = simp (either-no, pick-either)
 walked s (Q.ask q A A′ r y m) = simp (either-no, pick-either)
 walked s (Q.askNone q) = simp (either-no, pick-either)
@@ -75,17 +75,18 @@ pub turned : {r t b : Bool} → r ≡ t → not r ≡ b → opposite t ≡ b
 turned e k = ap opposite (sym e) ∙ k
 
 -- a memorandum that may say one thing, as it was worked and compared with the digest shown
-abbrev pub comparing : (number : ℕ) (before : List Str) (t : Str) → Bool → Check
-comparing number before t b = record { number = number; fails = pick b false true; forms = before ++ (t ∷ pick b [] []) }
+abbrev pub comparing : (number : ℕ) (before : List Str) (t : Str) (m : Dig) → Bool → Check
+comparing number before t m b =
+    record { number = number; fails = pick b false true; forms = before ++ (t ∷ pick b [] []); compares = m ∷ [] }
 
-module _ {number n : ℕ} (before : List Str) (t : Str) where
-  made : (x : Bool) {b : Bool} → opposite x ≡ b → Made (comparing number before t x) b n (cost (before ++ (t ∷ [])) + n)
+module _ {number n : ℕ} (before : List Str) (t : Str) (m : Dig) where
+  made : (x : Bool) {b : Bool} → opposite x ≡ b → Made (comparing number before t m x) b n (cost (before ++ (t ∷ [])) + n)
   made true e = record { fails = e; count = refl }
   made false e = record { fails = e; count = refl }
 
-  pub compared : (m : Dig) {d : Dig} {r b : Bool} → d ≡ digest sha256 t → r ≡ same d m → not r ≡ b
-      → Made (comparing number before t (same (digest sha256 t) m)) b n (cost (before ++ (t ∷ [])) + n)
-  compared m e h k = made (same (digest sha256 t) m) (turned (h ∙ ap (λ (x : Dig). same x m) e) k)
+  pub compared : {d : Dig} {r b : Bool} → d ≡ digest sha256 t → r ≡ same d m → not r ≡ b
+      → Made (comparing number before t m (same (digest sha256 t) m)) b n (cost (before ++ (t ∷ [])) + n)
+  compared e h k = made (same (digest sha256 t) m) (turned (h ∙ ap (λ (x : Dig). same x m) e) k)
 
 -- ── the checks one by one ──
 
@@ -98,7 +99,7 @@ refused-by s kind q {number} fs v h =
 module _ {s : Registers} {kind : ℕ} {q : Q.Request} where
   -- a check on numbers
   module _ {number n : ℕ} {b : Bool} {l : List Check}
-      (p : Left s kind q (record { number = number; fails = b; forms = [] } ∷ l) n) where
+      (p : Left s kind q (plain number b ∷ l) n) where
     pub passes : b ≡ false → Left s kind q l n
     passes e = record { formed = p .formed; so = p .so ∙ rw e refl; count = p .count }
 

@@ -12,18 +12,17 @@ use Rattle.kernel.proofs.set_record.Tie as tie
 returns : tie.Need-returns
 unfolding digestAt bytesAt requestAt Q.kinds
 returns c =
-    let c7 = c .before .before .before in
-    let c4 = c7 .before .before .before in
+    let c5 = c .before .before .before in
+    let c4 = c5 .before in
     let c1 = c4 .before .before .before in
-    let f = c1 .before .before .args .f .now in
     c .set-record .ensures
     ∙ (λ i.
     outcome (c1 .before .before .args .r) 12
     (Q.setTo (c1 .item-at .ensures i) (c4 .before .before .item-at2 .ensures i) (c4 .before .record-at .ensures i)
-    ((c4 .number-at .ensures ∙ number-there f 49) i)
-    ((c7 .before .before .number-at2 .ensures ∙ number-there f 57) i)
-    ((c7 .before .number-at3 .ensures ∙ number-there f 65) i) (c7 .digest-at .ensures i)
-    (c .before .before .digest-at2 .ensures i) (c .before .digest-at3 .ensures i)))
+    (c4 .values-at .ensures i) (c5 .digest-at .ensures i) (c .before .before .digest-at2 .ensures i)
+    (c .before .digest-at3 .ensures i)))
 
 pub set-record-spec : {M : Type 1} → statement M
-set-record-spec = tie.close (tie.spec free free (λ c κs. search needs) free free free free free free free returns)
+set-record-spec =
+    tie.close
+    (tie.spec free free (λ c κs. search needs) (λ c κs. search needs) free free free free free free free returns)

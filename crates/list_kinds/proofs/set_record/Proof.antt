@@ -16,7 +16,7 @@ use Rattle.list_kinds.proofs.set_record.Tie as tie
 abbrev At : (i n : ℕ) → tie.Start → Type 0
 At i n c =
     let a = c .args in
-    Met i (a .r) 12 (Q.setTo (a .a .0) (a .b .0) (a .old) (a .v2 .0) (a .v3 .0) (a .v4 .0) (a .y) (a .yn) (a .m)) n
+    Met i (a .r) 12 (Q.setTo (a .a .0) (a .b .0) (a .old) (a .v) (a .y) (a .yn) (a .m)) n
 
 abbrev start : tie.Else5 → tie.Start
 start c = c .before .before .before .before .before .before .before .before .before .before .before
@@ -37,13 +37,16 @@ room : (c : tie.Else5) → At 5 0 (start c)
 room c = passes (formed (c .before .before .before)) (ne-eqb _ _ (c .if5 .left))
 
 -- the same, once the memorandum is worked
+abbrev unworked : tie.After-change-memo → tie.Else5
+unworked c = c .before .before .before .before .before .before
+
 abbrev Worked : (i : ℕ) → tie.After-change-memo → Type 0
-Worked i c = At i (c .change-memo .result .blocks) (start (c .before .before .before))
+Worked i c = At i (c .change-memo .result .blocks) (start (unworked c))
 
 fits : (c : tie.Else6) → Worked 6 (c .before .before .before)
 fits c =
     let b = c .before .before .before in
-    works (room (b .before .before .before))
+    works (room (unworked b))
     (made (changeForms sha256 _ _ _ _) _ _ (b .change-memo .ensures) (c .before .same-digest .ensures) (c .if6 .left))
 
 current : (c : tie.Else7) → Worked 7 (c .before .before .before .before .before .before)
@@ -72,7 +75,7 @@ returns-6 c =
     let d = c .before .before in
     let b = d .before .before in
     c .refuse6 .ensures
-    ∙ stops (room (b .before .before .before))
+    ∙ stops (room (unworked b))
     (made (changeForms sha256 _ _ _ _) _ _ (b .change-memo .ensures) (d .same-digest .ensures) (c .before .if6 .taken))
 
 returns-7 : tie.Need-returns-7
