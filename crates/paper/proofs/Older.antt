@@ -1,5 +1,5 @@
 -- A set's memorandum stands for the new record's revision, so at another counter it fits only where strings collide:
--- the memoranda, the leaves in them, or the records in those.
+-- the memoranda, the leaves in them, or the records in those. The two lines may differ in all else.
 use mathlib.Core.Path.{_≡_, refl, sym, ap, subst, _∙_}
 use mathlib.Core.Bool.{Bool, true, false, true≢false}
 use mathlib.Core.List.{List, [], _∷_, _++_, List·Memᴰ, List·Memᴰ·head, Memᴰ·append-left, Memᴰ·append-right, List-discrete}
@@ -7,22 +7,22 @@ use mathlib.Core.Logic.{_⊎_, inl, inr}
 use Prim.Native.Nat.{ℕ, _+_, _<_, _^_}
 use native.Mathlib.Omega.{arith}
 use native.Mathlib.Decide.{ℕ-discrete}
-use borrow.Author.Tests.{le-ltb, ne-eqb}
+use borrow.Author.Tests.{eqb-true, eqb-false, ne-eqb}
 use lib.Dec.{eqb}
-use lib.ListN.{length, take, drop}
-use lib.Seq.{take-at, drop-at}
-use Rattle.seqs.specs.Choose.{pick, both, either, opposite, both-true, _and_}
+use lib.ListN.{length, take, drop, length-drop}
+use lib.Seq.{length-take-le, take-at, drop-at}
+use Rattle.seqs.specs.Choose.{pick, both, either, opposite, both-true}
 use Rattle.seqs.specs.Bytes.{be64, be64-length, numberOf, number-be64, same, same-true}
 use Rattle.hex.specs.Hex.{bytesOf}
 use Rattle.paper.specs.declared.Record.{Record}
 use Rattle.paper.specs.declared.Values.{Values}
 use Rattle.paper.specs.declared.Registers.{Registers}
 use Rattle.paper.specs.Strings.{Dig, nought, u1, Str, leaf, entry, memo, enc, digest, blank, recordForms, recordHash}
-use Rattle.paper.specs.Requests.{Request, setTo, kinds, kindOf, rowOf, part, requestOf}
-use Rattle.paper.specs.Refusals.{Check, order, roomFor, replyRoom, isHex, top, nextRecord, leafOf, leafForms, changeForms, changeSays, needs, applies, formedAt, judge, Passed}
+use Rattle.paper.specs.Requests.{Request, setTo, recordIn, valuesIn, Kind, kinds, kindOf, rowOf, takesAll, part, soundAll, fits, requestOf}
+use Rattle.paper.specs.Refusals.{Check, order, roomFor, replyRoom, isHex, top, nextRecord, numbersBefore, carried, leafOf, leafForms, changeForms, changeSays, needs, applies, formedAt, judge, Passed}
 use Rattle.paper.specs.Module.{frameChecks, Told, told, answerTo}
 use Rattle.paper.specs.Collisions.{Collision}
-use Rattle.paper.proofs.Verdicts.{firstOf, number-is, in-told, split-passed, reached, passed-number}
+use Rattle.paper.proofs.Verdicts.{firstOf, number-is, in-told, split-passed, passed-at, reached, passed-number}
 use Rattle.paper.specs.Older.{Fits, Later, OlderGets8}
 
 -- ── where the number is 0 or 10, every other check is passed ──
@@ -51,29 +51,37 @@ all-passed (n ∷ ns) rest cs h f =
 
 -- ── bytes that agree ──
 
-behind : (p a b : List ℕ) → p ++ a ≡ p ++ b → a ≡ b
-behind p a b e =
-    sym (drop-at p a (length p) refl) ∙ ap (drop (length p)) e ∙ drop-at p b (length p) refl
-
-front : (a b r : List ℕ) → length a ≡ length b → a ++ r ≡ b ++ r → a ≡ b
-front a b r n e = sym (take-at a r (length b) n) ∙ ap (take (length b)) e ∙ take-at b r (length b) refl
-
-tail : List ℕ → List ℕ
+abbrev tail : List ℕ → List ℕ
 tail [] = []
 tail (a ∷ l) = l
 
--- one change's memoranda for two new leaves, two leaves of one item, two records: what in them may differ
-memo-tells : (x y x′ x″ y′ k : Dig) → length x′ ≡ length x″ → enc (memo (u1 x y x′ y′) k) ≡ enc (memo (u1 x y x″ y′) k)
-    → x′ ≡ x″
-unfolding enc tail
-memo-tells x y x′ x″ y′ k n e = front x′ x″ (y′ ++ (k ++ [])) n (behind y _ _ (behind x _ _ (ap tail e)))
+-- the third of three digests; the bytes behind two numbers
+third : (x y z r : List ℕ) → length x ≡ 32 → length y ≡ 32 → length z ≡ 32
+    → take 32 (drop 32 (drop 32 (x ++ (y ++ (z ++ r))))) ≡ z
+third x y z r n m o =
+    rw (drop-at x (y ++ (z ++ r)) 32 n, drop-at y (z ++ r) 32 m) (take-at z r 32 o)
 
-leaf-tells : (A A′ : ℕ) (h h′ : Dig) → length h ≡ length h′ → enc (leaf A A′ h) ≡ enc (leaf A A′ h′) → h ≡ h′
-unfolding enc tail
-leaf-tells A A′ h h′ n e = front h h′ [] n (behind (be64 A′) _ _ (behind (be64 A) _ _ (ap tail e)))
+behind-two : (A A′ : ℕ) (h : List ℕ) → take 32 (drop 8 (drop 8 (be64 A ++ (be64 A′ ++ (h ++ []))))) ≡ take 32 (h ++ [])
+behind-two A A′ h =
+    rw (drop-at (be64 A) (be64 A′ ++ (h ++ [])) 8 (be64-length A), drop-at (be64 A′) (h ++ []) 8 (be64-length A′)) refl
+
+-- what the strings of two changes, of two leaves and of two records tell
+memo-tells : (x y x′ y′ a b a′ b′ k l : Dig) → length x ≡ 32 → length y ≡ 32 → length x′ ≡ 32 → length a ≡ 32 → length b ≡ 32
+    → length a′ ≡ 32 → enc (memo (u1 x y x′ y′) k) ≡ enc (memo (u1 a b a′ b′) l) → x′ ≡ a′
+unfolding enc
+memo-tells x y x′ y′ a b a′ b′ k l n m o n′ m′ o′ e =
+    sym (third x y x′ (y′ ++ (k ++ [])) n m o)
+    ∙ ap (λ (s : List ℕ). take 32 (drop 32 (drop 32 (tail s)))) e
+    ∙ third a b a′ (b′ ++ (l ++ [])) n′ m′ o′
+
+leaf-tells : (A A′ B B′ : ℕ) (h h′ : Dig) → length h ≡ 32 → length h′ ≡ 32 → enc (leaf A A′ h) ≡ enc (leaf B B′ h′) → h ≡ h′
+unfolding enc
+leaf-tells A A′ B B′ h h′ n n′ e =
+    sym (take-at h [] 32 n) ∙ sym (behind-two A A′ h) ∙ ap (λ (s : List ℕ). take 32 (drop 8 (drop 8 (tail s)))) e
+    ∙ behind-two B B′ h′ ∙ take-at h′ [] 32 n′
 
 revision-in : (r : Record) → r .revision .0 < 2 ^ 64 → numberOf (take 8 (tail (enc (entry r)))) ≡ r .revision .0
-unfolding enc tail
+unfolding enc
 revision-in r n =
     ap numberOf (take-at (be64 (r .revision .0)) _ 8 (be64-length (r .revision .0))) ∙ number-be64 (r .revision .0) n
 
@@ -96,12 +104,25 @@ module _ (D : List ℕ → Dig) (fs : List Str) where
 
 -- the checks before 8
 abbrev before : List ℕ
-before = 15 ∷ 1 ∷ 2 ∷ 3 ∷ 13 ∷ 14 ∷ 12 ∷ 4 ∷ 5 ∷ 6 ∷ 11 ∷ 7 ∷ []
+before = numbersBefore 8 order
 
 -- a memorandum that may say one thing fits
 fits-by : (b : Bool) → either (pick b false true) false ≡ false → b ≡ true
 fits-by true h = refl
 fits-by false h = absurd (true≢false h)
+
+-- a frame that passes 3
+frame-fits : (b : Bool) → either (opposite b) false ≡ false → b ≡ true
+frame-fits true h = refl
+frame-fits false h = absurd (true≢false h)
+
+either-none : (b : Bool) → either b false ≡ false → b ≡ false
+either-none true h = h
+either-none false h = refl
+
+abbrev head-of : List Dig → Dig
+head-of [] = []
+head-of (d ∷ l) = d
 
 -- of records that are not blank, one hash is one digest
 hashes-by : (b b′ : Bool) (z d d′ : Dig) → b ≡ false → b′ ≡ false → pick b z d ≡ pick b′ z d′ → d ≡ d′
@@ -109,126 +130,175 @@ hashes-by true b′ z d d′ e e′ h = absurd (true≢false e)
 hashes-by false true z d d′ e e′ h = absurd (true≢false e′)
 hashes-by false false z d d′ e e′ h = h
 
-module _
-    (D : List ℕ → Dig) (D32 : (l : List ℕ) → length (D l) ≡ 32) (line : List ℕ)
-    (A A′ : ℕ) (old : Record) (v : Values) (y y′ m : Dig)
-    (e : requestOf (bytesOf line) ≡ setTo A A′ old v y y′ m) where
-  abbrev q : Request
-  q = setTo A A′ old v y y′ m
+-- a set's line by what it says
+record SetLine (line : List ℕ) : Type 0 where
+  A : ℕ
+  A′ : ℕ
+  old : Record
+  v : Values
+  y : Dig
+  y′ : Dig
+  m : Dig
+  is-set : requestOf (bytesOf line) ≡ setTo A A′ old v y y′ m
+  wide : fits (bytesOf line) ≡ true → length y ≡ 32
 
-  abbrev kind : ℕ
-  kind = kindOf (bytesOf line)
+-- kind 0c is a set, and its y has 32 bytes where the frame has its length
+set-line : (line : List ℕ) → kindOf (bytesOf line) ≡ 0x0c → SetLine line
+unfolding requestOf kinds fits
+set-line line k =
+    let f : List ℕ = bytesOf line in
+    let row : ℕ → Kind = rowOf in
+    let p : ℕ → List ℕ = part (row 0x0c .carries) (drop 1 f) in
+    record {
+      A = numberOf (p 0);
+      A′ = numberOf (p 1);
+      old = recordIn (p 2);
+      v = valuesIn (p 3);
+      y = p 4;
+      y′ = p 5;
+      m = p 6;
+      is-set = ap (λ (n : ℕ). row n .reads (part (row n .carries) (drop 1 f))) k;
+      wide = λ h.
+          let g : both (eqb (length f) (1 + takesAll (row 0x0c .carries) (drop 1 f))) (soundAll (row 0x0c .carries) (drop 1 f)) ≡ true =
+          subst
+          (λ (n : ℕ). both (eqb (length f) (1 + takesAll (row n .carries) (drop 1 f))) (soundAll (row n .carries) (drop 1 f)) ≡ true)
+          k h in
+          let long = eqb-true (length f) 169 (both-true _ _ g .0) in
+          length-take-le 32 (drop 24 (drop 32 (drop 8 (drop 8 (drop 1 f)))))
+          (omega (arith, length-drop 24 (drop 32 (drop 8 (drop 8 (drop 1 f)))), length-drop 32 (drop 8 (drop 8 (drop 1 f))),
+          length-drop 8 (drop 8 (drop 1 f)), length-drop 8 (drop 1 f), length-drop 1 f));
+    }
 
-  abbrev new : Registers → Record
-  new r = nextRecord r v
+module _ (D : List ℕ → Dig) (D32 : (l : List ℕ) → length (D l) ≡ 32) where
+  module _ {line : List ℕ} (l : SetLine line) (r : Registers) (n : ℕ) where
+    abbrev q : Request
+    q = setTo (l .A) (l .A′) (l .old) (l .v) (l .y) (l .y′) (l .m)
 
-  abbrev newLeaf : Registers → Str
-  newLeaf r = leafOf D A A′ (new r)
+    abbrev kind : ℕ
+    kind = kindOf (bytesOf line)
 
-  abbrev says : Registers → Str
-  says r = memo (changeSays D A A′ old (new r) y y′) (r .secret)
+    abbrev new : Record
+    new = nextRecord r (l .v)
 
-  abbrev checks : Registers → ℕ → List Check
-  checks r n = roomFor replyRoom n ∷ isHex line ∷ (frameChecks (bytesOf line) ++ needs D r q)
+    abbrev newLeaf : Str
+    newLeaf = leafOf D (l .A) (l .A′) new
 
-  module _ (r : Registers) (n : ℕ) where
-    judged : answerTo D r line n ≡ told D r kind q (judge order [] (checks r n))
+    abbrev says : Str
+    says = memo (changeSays D (l .A) (l .A′) (l .old) new (l .y) (l .y′)) (r .secret)
+
+    abbrev checks : List Check
+    checks = roomFor replyRoom n ∷ isHex line ∷ (frameChecks (bytesOf line) ++ needs D r q)
+
+    judged : answerTo D r line n ≡ told D r kind q (judge order [] checks)
     unfolding answerTo
-    judged = rw e refl
+    judged = rw (l .is-set) refl
 
-    number : answerTo D r line n .refusal ≡ firstOf order (checks r n)
-    number = ap (λ (t : Told). t .refusal) judged ∙ number-is D r kind q order [] (checks r n)
+    number : answerTo D r line n .refusal ≡ firstOf order checks
+    number = ap (λ (t : Told). t .refusal) judged ∙ number-is D r kind q order [] checks
 
-    formed : (x : Str) → Passed before (checks r n) → List·Memᴰ x (formedAt 8 (checks r n))
-        → List·Memᴰ x (answerTo D r line n .formed)
+    formed : (x : Str) → Passed before checks → List·Memᴰ x (formedAt 8 checks) → List·Memᴰ x (answerTo D r line n .formed)
     formed x h i =
-        rw judged (in-told D r kind q x (judge order [] (checks r n)) (reached x before 8 (9 ∷ 10 ∷ []) [] (checks r n) h i))
+        rw judged (in-told D r kind q x (judge order [] checks) (reached x before 8 (9 ∷ 10 ∷ []) [] checks h i))
 
     -- the three strings that tell the new revision
-    memo-formed : List·Memᴰ (says r) (formedAt 8 (checks r n))
-    memo-formed = Memᴰ·append-right (changeForms D A A′ old (new r)) (List·Memᴰ·head refl)
+    memo-formed : List·Memᴰ says (formedAt 8 checks)
+    memo-formed = Memᴰ·append-right (changeForms D (l .A) (l .A′) (l .old) new) (List·Memᴰ·head refl)
 
-    leaf-formed : List·Memᴰ (newLeaf r) (formedAt 8 (checks r n))
+    leaf-formed : List·Memᴰ newLeaf (formedAt 8 checks)
     leaf-formed =
         Memᴰ·append-left _
-        (Memᴰ·append-right (leafForms D A A′ old) (Memᴰ·append-right (recordForms (new r)) (List·Memᴰ·head refl)))
+        (Memᴰ·append-right (leafForms D (l .A) (l .A′) (l .old)) (Memᴰ·append-right (recordForms new) (List·Memᴰ·head refl)))
 
-    not-blank : blank (new r) ≡ false
+    not-blank : blank new ≡ false
     not-blank = ne-eqb (r .counter .0 + 1) 0 (λ z. omega arith)
 
-    entry-formed : List·Memᴰ (entry (new r)) (formedAt 8 (checks r n))
+    entry-formed : List·Memᴰ (entry new) (formedAt 8 checks)
     unfolding recordForms
     entry-formed =
         Memᴰ·append-left _
-        (Memᴰ·append-right (leafForms D A A′ old) (Memᴰ·append-left {s = recordForms (new r)} _
+        (Memᴰ·append-right (leafForms D (l .A) (l .A′) (l .old)) (Memᴰ·append-left {s = recordForms new} _
         (rw not-blank (List·Memᴰ·head refl))))
 
     -- a memorandum that fits is the digest of what it may say
-    fitted : applies 8 (checks r n) ≡ false → digest D (says r) ≡ m
-    fitted h = same-true _ m (fits-by (same (digest D (says r)) m) h)
+    fitted : applies 8 checks ≡ false → digest D says ≡ l .m
+    fitted h = same-true _ (l .m) (fits-by (same (digest D says) (l .m)) h)
 
-    hash-long : length (recordHash D (new r)) ≡ 32
+    hash-long : length (recordHash D new) ≡ 32
     unfolding recordHash
-    hash-long = rw not-blank (D32 (enc (entry (new r))))
+    hash-long = rw not-blank (D32 (enc (entry new)))
+
+    y-long : Passed before checks → length (l .y) ≡ 32
+    y-long h = l .wide (frame-fits (fits (bytesOf line)) (passed-at 3 before checks h refl))
 
   -- ── two counters ──
 
-  module _ (s₀ s : Registers) (space₀ space : ℕ) (L : Later D s₀ s line space₀ space) where
+  module _ {line₀ line : List ℕ} (l₀ : SetLine line₀) (l : SetLine line) (s₀ s : Registers) (space₀ space : ℕ)
+      (L : Later D s₀ s line₀ line space₀ space) where
     abbrev fs : List Str
-    fs = answerTo D s₀ line space₀ .formed ++ answerTo D s line space .formed
+    fs = answerTo D s₀ line₀ space₀ .formed ++ answerTo D s line space .formed
 
-    then-passed : Passed before (checks s₀ space₀) × Passed (8 ∷ []) (checks s₀ space₀)
+    abbrev checks₀ : List Check
+    checks₀ = checks l₀ s₀ space₀
+
+    abbrev now : List Check
+    now = checks l s space
+
+    then-passed : Passed before checks₀ × Passed (8 ∷ []) checks₀
     then-passed =
-        split-passed before (8 ∷ []) (checks s₀ space₀)
-        (all-passed (before ++ (8 ∷ [])) (9 ∷ 10 ∷ []) (checks s₀ space₀) refl (subst Fits (number s₀ space₀) (L .fitted)))
+        split-passed before (8 ∷ []) checks₀
+        (all-passed (before ++ (8 ∷ [])) (9 ∷ 10 ∷ []) checks₀ refl (subst Fits (number l₀ s₀ space₀) (L .fitted)))
 
-    -- what depends on the line alone is passed now as it was then
-    now-passed : Passed before (checks s space)
+    now-passed : Passed before now
     now-passed =
-        let p = then-passed .0 .1 in
-        let p4 = p .1 .1 .1 .1 .1 .1 in
-        let u = L .below in
-        let under = ne-eqb (s .counter .0) top (λ (z : s .counter .0 ≡ top). omega arith) in
-        rw (le-ltb space replyRoom (L .room)) refl and p .0 and p .1 .0 and p .1 .1 .0 and rw (L .opened) refl and refl
-        and refl and p4 .0 and p4 .1 .0 and refl and refl and rw under refl and tt
+        subst (λ (p : Request). Passed before (roomFor replyRoom space ∷ isHex line ∷ (frameChecks (bytesOf line) ++ needs D s p)))
+        (l .is-set) (L .passes)
 
-    formed-then : (x : Str) → List·Memᴰ x (formedAt 8 (checks s₀ space₀)) → List·Memᴰ x fs
-    formed-then x i = Memᴰ·append-left _ (formed s₀ space₀ x (then-passed .0) i)
+    -- the counter's top is refused by 7
+    below : s .counter .0 < top
+    below =
+        let u = L .in-register in
+        let n = eqb-false (s .counter .0) top (either-none (eqb (s .counter .0) top) (passed-at 7 before now now-passed refl)) in
+        omega (arith, n)
 
-    formed-now : (x : Str) → List·Memᴰ x (formedAt 8 (checks s space)) → List·Memᴰ x fs
-    formed-now x i = Memᴰ·append-right (answerTo D s₀ line space₀ .formed) (formed s space x now-passed i)
+    one-memorandum : l₀ .m ≡ l .m
+    one-memorandum =
+        ap head-of (ap (carried D s₀) (sym (l₀ .is-set)) ∙ L .one-memorandum ∙ ap (carried D s) (l .is-set))
 
-    records : recordHash D (new s₀) ≡ recordHash D (new s) → Collision D fs
+    formed-then : (x : Str) → List·Memᴰ x (formedAt 8 checks₀) → List·Memᴰ x fs
+    formed-then x i = Memᴰ·append-left _ (formed l₀ s₀ space₀ x (then-passed .0) i)
+
+    formed-now : (x : Str) → List·Memᴰ x (formedAt 8 now) → List·Memᴰ x fs
+    formed-now x i = Memᴰ·append-right (answerTo D s₀ line₀ space₀ .formed) (formed l s space x now-passed i)
+
+    records : recordHash D (new l₀ s₀ space₀) ≡ recordHash D (new l s space) → Collision D fs
     unfolding recordHash
     records h =
         let o = L .older in
-        let u = L .below in
-        or-same D fs (entry (new s₀)) (entry (new s)) (formed-then _ (entry-formed s₀ space₀))
-        (formed-now _ (entry-formed s space))
-        (hashes-by (blank (new s₀)) (blank (new s)) nought _ _ (not-blank s₀ space₀) (not-blank s space) h)
-        (λ b. let n = entry-tells (new s₀) (new s) (omega arith) (omega arith) b in absurd (omega arith))
+        let u = below in
+        or-same D fs (entry (new l₀ s₀ space₀)) (entry (new l s space)) (formed-then _ (entry-formed l₀ s₀ space₀))
+        (formed-now _ (entry-formed l s space))
+        (hashes-by (blank (new l₀ s₀ space₀)) (blank (new l s space)) nought _ _ (not-blank l₀ s₀ space₀) (not-blank l s space) h)
+        (λ b. let n = entry-tells (new l₀ s₀ space₀) (new l s space) (omega arith) (omega arith) b in absurd (omega arith))
 
-    leaves : digest D (newLeaf s₀) ≡ digest D (newLeaf s) → Collision D fs
+    leaves : digest D (newLeaf l₀ s₀ space₀) ≡ digest D (newLeaf l s space) → Collision D fs
     leaves h =
-        or-same D fs (newLeaf s₀) (newLeaf s) (formed-then _ (leaf-formed s₀ space₀)) (formed-now _ (leaf-formed s space)) h
-        (λ b. records (leaf-tells A A′ _ _ (hash-long s₀ space₀ ∙ sym (hash-long s space)) b))
+        or-same D fs (newLeaf l₀ s₀ space₀) (newLeaf l s space) (formed-then _ (leaf-formed l₀ s₀ space₀))
+        (formed-now _ (leaf-formed l s space)) h
+        (λ b. records (leaf-tells _ _ _ _ _ _ (hash-long l₀ s₀ space₀) (hash-long l s space) b))
 
-    memos : applies 8 (checks s space) ≡ false → Collision D fs
+    memos : applies 8 now ≡ false → Collision D fs
     memos h =
-        let e′ = fitted s₀ space₀ (then-passed .1 .0) ∙ sym (fitted s space h) in
-        or-same D fs (says s₀) (says s) (formed-then _ (memo-formed s₀ space₀)) (formed-now _ (memo-formed s space)) e′
-        (λ b. leaves (memo-tells _ y _ _ y′ (s₀ .secret) (D32 _ ∙ sym (D32 _))
-        (b ∙ ap (λ (k : Dig). enc (memo (changeSays D A A′ old (new s) y y′) k)) (L .secret))))
+        or-same D fs (says l₀ s₀ space₀) (says l s space) (formed-then _ (memo-formed l₀ s₀ space₀))
+        (formed-now _ (memo-formed l s space))
+        (fitted l₀ s₀ space₀ (then-passed .1 .0) ∙ one-memorandum ∙ sym (fitted l s space h))
+        (λ b. leaves (memo-tells _ (l₀ .y) _ (l₀ .y′) _ (l .y) _ (l .y′) (s₀ .secret) (s .secret)
+        (D32 _) (y-long l₀ s₀ space₀ (then-passed .0)) (D32 _) (D32 _) (y-long l s space now-passed) (D32 _) b))
 
-    gets-8 : (b : Bool) → applies 8 (checks s space) ≡ b → (answerTo D s line space .refusal ≡ 8) ⊎ Collision D fs
+    gets-8 : (b : Bool) → applies 8 now ≡ b → (answerTo D s line space .refusal ≡ 8) ⊎ Collision D fs
     gets-8 true h =
-        inl (number s space ∙ passed-number before (8 ∷ 9 ∷ 10 ∷ []) (checks s space) now-passed ∙ rw h refl)
+        inl (number l s space ∙ passed-number before (8 ∷ 9 ∷ 10 ∷ []) now now-passed ∙ rw h refl)
     gets-8 false h = inr (memos h)
 
--- kind 0c is a set
-pub older-gets-8 : (D : List ℕ → Dig) → ((l : List ℕ) → length (D l) ≡ 32) → OlderGets8 D
-unfolding requestOf kinds
-older-gets-8 D D32 s₀ s line space₀ space L =
-    let f : List ℕ = bytesOf line in
-    let e = ap (λ (k : ℕ). rowOf k .reads (part (rowOf k .carries) (drop 1 f))) (L .kind) in
-    gets-8 D D32 line _ _ _ _ _ _ _ e s₀ s space₀ space L _ refl
+  pub older-gets-8 : OlderGets8 D
+  older-gets-8 s₀ s line₀ line space₀ space L =
+      gets-8 (set-line line₀ (L .kind₀)) (set-line line (L .kind)) s₀ s space₀ space L _ refl

@@ -1,16 +1,19 @@
 -- What a verdict says: its number is the first that applies, and the strings of every check that it comes to are formed.
-use mathlib.Core.Path.{_≡_, refl, ap, _∙_}
-use mathlib.Core.Bool.{Bool, true, false}
+use mathlib.Core.Path.{_≡_, refl, sym, ap, subst, _∙_}
+use mathlib.Core.Bool.{Bool, true, false, true≢false}
 use mathlib.Core.List.{List, [], _∷_, _++_, List·Memᴰ, Memᴰ·append-left, Memᴰ·append-right}
 use mathlib.Core.Logic.{_⊎_, inl, inr}
 use Prim.Native.Nat.{ℕ}
-use Rattle.seqs.specs.Choose.{pick}
+use borrow.Author.Tests.{eqb-true}
+use lib.Dec.{eqb}
+use Rattle.seqs.specs.Choose.{pick, either}
 use Rattle.paper.specs.declared.Registers.{Registers}
 use Rattle.paper.specs.Strings.{Dig, Str}
 use Rattle.paper.specs.Requests.{Request}
 use Rattle.paper.specs.Refusals.{Check, applies, formedAt, Verdict, refused, passed, judge, Passed, FirstToApply}
 use Rattle.paper.specs.Answers.{answer}
 use Rattle.paper.specs.Module.{told}
+use Rattle.paper.proofs.Early.{among}
 
 -- ── a verdict's number, and its strings ──
 
@@ -54,6 +57,16 @@ stays x (n ∷ ns) fs cs m =
 pub split-passed : (ns rest : List ℕ) (cs : List Check) → Passed (ns ++ rest) cs → Passed ns cs × Passed rest cs
 split-passed [] rest cs h = (tt, h)
 split-passed (n ∷ ns) rest cs h = let w = split-passed ns rest cs (h .1) in ((h .0, w .0), w .1)
+
+-- a check is found by its number
+pub passed-at : (n : ℕ) (ns : List ℕ) (cs : List Check) → Passed ns cs → among n ns ≡ true → applies n cs ≡ false
+passed-at n [] cs h a = absurd (true≢false (sym a))
+passed-at n (i ∷ ns) cs h a = here (eqb i n) refl (passed-at n ns cs (h .1)) a
+  where
+    here : (b : Bool) → eqb i n ≡ b → (among n ns ≡ true → applies n cs ≡ false) → either b (among n ns) ≡ true
+        → applies n cs ≡ false
+    here true e later a = subst (λ (k : ℕ). applies k cs ≡ false) (eqb-true i n e) (h .0)
+    here false e later a = later a
 
 -- behind checks that are passed, the strings of the next one are formed
 pub reached : (x : Str) (ns : List ℕ) (n : ℕ) (rest : List ℕ) (fs : List Str) (cs : List Check) → Passed ns cs

@@ -241,6 +241,11 @@ judge (n ∷ ns) fs cs = pick (applies n cs) (refused n (formedAt n cs ++ fs)) (
 
 -- ── what a verdict's number says ──
 
+-- those of some numbers that come before n
+abbrev pub numbersBefore : ℕ → List ℕ → List ℕ
+numbersBefore n [] = []
+numbersBefore n (i ∷ ns) = pick (eqb i n) [] (i ∷ numbersBefore n ns)
+
 -- none of some numbers applies
 abbrev pub Passed : List ℕ → List Check → Type 0
 Passed [] cs = Unit {0}

@@ -13,7 +13,7 @@ use Rattle.paper.specs.Requests.{Request}
 use Rattle.paper.specs.Refusals.{Check, those, anyFails, formsAll, applies, formedAt, passed, judge, Passed}
 use Rattle.paper.specs.Module.{Told, told}
 use Rattle.paper.proofs.Early.{among, numbered}
-use Rattle.paper.proofs.Verdicts.{firstOf, number-is}
+use Rattle.paper.proofs.Verdicts.{firstOf, number-is, passed-at}
 
 -- the test of a check that does not fail
 pub opposite-false : (b : Bool) → opposite b ≡ false → b ≡ true
@@ -50,15 +50,6 @@ fails-not c (d ∷ cs) h (List·Memᴰ·head e) = ap (λ (x : Check). x .fails) 
 fails-not c (d ∷ cs) h (List·Memᴰ·tail m) = fails-not c cs (either-false (d .fails) (anyFails cs) h .1) m
 
 -- ── passed, number by number and check by check ──
-
-passed-at : (n : ℕ) (ns : List ℕ) (cs : List Check) → Passed ns cs → among n ns ≡ true → applies n cs ≡ false
-passed-at n [] cs h a = absurd (true≢false (sym a))
-passed-at n (i ∷ ns) cs h a = here (eqb i n) refl (passed-at n ns cs (h .1)) a
-  where
-    here : (b : Bool) → eqb i n ≡ b → (among n ns ≡ true → applies n cs ≡ false) → either b (among n ns) ≡ true
-        → applies n cs ≡ false
-    here true e later a = subst (λ (k : ℕ). applies k cs ≡ false) (eqb-true i n e) (h .0)
-    here false e later a = later a
 
 none-of : (ns : List ℕ) (cs ds : List Check) → Passed ns cs → numbered ns ds ≡ true
     → ((c : Check) → List·Memᴰ c ds → List·Memᴰ c cs) → NoneFails ds
