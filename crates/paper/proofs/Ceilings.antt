@@ -14,10 +14,9 @@ use Rattle.paper.specs.declared.Registers.{Registers}
 use Rattle.paper.specs.Strings.{Dig, nought, Memo, u1, v1, u2, ei, Str, leaf, node, entry, memo, cost, blank, recordForms, parentForms, digest, up, upForms, foldForms}
 use Rattle.paper.specs.Requests as Q
 use Rattle.paper.specs.Requests.{Request, kindOf, requestOf}
-use Rattle.paper.specs.Refusals.{Check, order, roomFor, replyRoom, isHex, isKind, isFrame, nextRecord, clearedRecord, tried, first-memo, leafOf, leafForms, changeForms, changeSays, needs, those, formsAll, applies, formedAt, Verdict, refused, passed, judge}
+use Rattle.paper.specs.Refusals.{Check, order, roomFor, replyRoom, isHex, isKind, isFrame, nextRecord, clearedRecord, tried, first-memo, leafOf, leafForms, changeForms, changeSays, needs, those, formsAll, applies, formedAt, Verdict, refused, passed, formedBy, judge}
 use Rattle.paper.specs.Answers.{answer}
 use Rattle.paper.specs.Module.{frameChecks, told, answerFrame, answerTo}
-use Rattle.paper.proofs.Verdicts.{formedBy}
 use Rattle.paper.specs.Ceilings.{ceiling, Ceilings}
 
 -- ── a verdict's strings are among those of its checks ──

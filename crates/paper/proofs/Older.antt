@@ -66,7 +66,7 @@ behind-two A A′ h =
     rw (drop-at (be64 A) (be64 A′ ++ (h ++ [])) 8 (be64-length A), drop-at (be64 A′) (h ++ []) 8 (be64-length A′)) refl
 
 -- what the strings of two changes, of two leaves and of two records tell
-memo-tells : (x y x′ y′ a b a′ b′ k l : Dig) → length x ≡ 32 → length y ≡ 32 → length x′ ≡ 32 → length a ≡ 32 → length b ≡ 32
+pub memo-tells : (x y x′ y′ a b a′ b′ k l : Dig) → length x ≡ 32 → length y ≡ 32 → length x′ ≡ 32 → length a ≡ 32 → length b ≡ 32
     → length a′ ≡ 32 → enc (memo (u1 x y x′ y′) k) ≡ enc (memo (u1 a b a′ b′) l) → x′ ≡ a′
 unfolding enc
 memo-tells x y x′ y′ a b a′ b′ k l n m o n′ m′ o′ e =

@@ -1,19 +1,48 @@
 -- What a verdict says: its number is the first that applies, and the strings of every check that it comes to are formed.
 use mathlib.Core.Path.{_≡_, refl, sym, ap, subst, _∙_}
 use mathlib.Core.Bool.{Bool, true, false, true≢false}
-use mathlib.Core.List.{List, [], _∷_, _++_, List·Memᴰ, Memᴰ·append-left, Memᴰ·append-right}
+use mathlib.Core.List.{List, [], _∷_, _++_, List·Memᴰ, List·Memᴰ·head, List·Memᴰ·tail, Memᴰ·append-left, Memᴰ·append-right}
 use mathlib.Core.Logic.{_⊎_, inl, inr}
 use Prim.Native.Nat.{ℕ}
-use borrow.Author.Tests.{eqb-true}
+use borrow.Author.Tests.{eqb-true, eq-eqb}
 use lib.Dec.{eqb}
 use Rattle.seqs.specs.Choose.{pick, either}
 use Rattle.paper.specs.declared.Registers.{Registers}
 use Rattle.paper.specs.Strings.{Dig, Str}
 use Rattle.paper.specs.Requests.{Request}
-use Rattle.paper.specs.Refusals.{Check, applies, formedAt, Verdict, refused, passed, judge, Passed, FirstToApply}
+use Rattle.paper.specs.Refusals.{Check, those, anyFails, formsAll, applies, formedAt, Verdict, refused, passed, formedBy, judge, Passed, FirstToApply}
 use Rattle.paper.specs.Answers.{answer}
-use Rattle.paper.specs.Module.{told}
+use Rattle.paper.specs.Module.{refusalOf, told}
 use Rattle.paper.proofs.Early.{among}
+
+-- ── a check in its list ──
+
+pub in-those : (c : Check) (cs : List Check) → List·Memᴰ c cs → List·Memᴰ c (those (c .number) cs)
+in-those c (d ∷ cs) (List·Memᴰ·head e) = at-head (eqb (d .number) (c .number))
+    (eq-eqb _ _ (ap (λ (x : Check). x .number) (sym e)))
+  where
+    at-head : (b : Bool) → b ≡ true → List·Memᴰ c (pick b (d ∷ those (c .number) cs) (those (c .number) cs))
+    at-head true h = List·Memᴰ·head e
+    at-head false h = absurd (true≢false (sym h))
+in-those c (d ∷ cs) (List·Memᴰ·tail m) = behind (eqb (d .number) (c .number)) (in-those c cs m)
+  where
+    behind : (b : Bool) → List·Memᴰ c (those (c .number) cs)
+        → List·Memᴰ c (pick b (d ∷ those (c .number) cs) (those (c .number) cs))
+    behind true i = List·Memᴰ·tail i
+    behind false i = i
+
+either-false : (a b : Bool) → either a b ≡ false → (a ≡ false) × (b ≡ false)
+either-false true b h = absurd (true≢false h)
+either-false false b h = (refl, h)
+
+pub fails-not : (c : Check) (cs : List Check) → anyFails cs ≡ false → List·Memᴰ c cs → c .fails ≡ false
+fails-not c (d ∷ cs) h (List·Memᴰ·head e) = ap (λ (x : Check). x .fails) e ∙ either-false (d .fails) (anyFails cs) h .0
+fails-not c (d ∷ cs) h (List·Memᴰ·tail m) = fails-not c cs (either-false (d .fails) (anyFails cs) h .1) m
+
+pub in-forms : (x : Str) (c : Check) (cs : List Check) → List·Memᴰ c cs → List·Memᴰ x (c .forms) → List·Memᴰ x (formsAll cs)
+in-forms x c (d ∷ cs) (List·Memᴰ·head e) m =
+    Memᴰ·append-right (formsAll cs) (subst (λ (y : Check). List·Memᴰ x (y .forms)) e m)
+in-forms x c (d ∷ cs) (List·Memᴰ·tail i) m = Memᴰ·append-left (d .forms) (in-forms x c cs i m)
 
 -- ── a verdict's number, and its strings ──
 
@@ -21,21 +50,23 @@ abbrev pub firstOf : List ℕ → List Check → ℕ
 firstOf [] cs = 0
 firstOf (n ∷ ns) cs = pick (applies n cs) n (firstOf ns cs)
 
-abbrev pub formedBy : Verdict → List Str
-formedBy (refused n fs) = fs
-formedBy (passed fs) = fs
+number-step : (b : Bool) (n : ℕ) (fs : List Str) (v : Verdict) (m : ℕ) → refusalOf v ≡ m → refusalOf (pick b (refused n fs) v) ≡ pick b n m
+number-step true n fs v m h = refl
+number-step false n fs v m h = h
+
+pub verdict-number : (ns : List ℕ) (fs : List Str) (cs : List Check) → refusalOf (judge ns fs cs) ≡ firstOf ns cs
+verdict-number [] fs cs = refl
+verdict-number (n ∷ ns) fs cs =
+    number-step (applies n cs) n (formedAt n cs ++ fs) (judge ns (formedAt n cs ++ fs) cs) (firstOf ns cs)
+    (verdict-number ns (formedAt n cs ++ fs) cs)
 
 module _ (D : List ℕ → Dig) (s : Registers) (k : ℕ) (q : Request) where
-  number-step : (b : Bool) (n : ℕ) (fs : List Str) (v : Verdict) (m : ℕ) → told D s k q v .refusal ≡ m
-      → told D s k q (pick b (refused n fs) v) .refusal ≡ pick b n m
-  number-step true n fs v m h = refl
-  number-step false n fs v m h = h
+  told-number : (v : Verdict) → told D s k q v .refusal ≡ refusalOf v
+  told-number (refused n fs) = refl
+  told-number (passed fs) = refl
 
   pub number-is : (ns : List ℕ) (fs : List Str) (cs : List Check) → told D s k q (judge ns fs cs) .refusal ≡ firstOf ns cs
-  number-is [] fs cs = refl
-  number-is (n ∷ ns) fs cs =
-      number-step (applies n cs) n (formedAt n cs ++ fs) (judge ns (formedAt n cs ++ fs) cs) (firstOf ns cs)
-      (number-is ns (formedAt n cs ++ fs) cs)
+  number-is ns fs cs = told-number (judge ns fs cs) ∙ verdict-number ns fs cs
 
   pub in-told : (x : Str) (v : Verdict) → List·Memᴰ x (formedBy v) → List·Memᴰ x (told D s k q v .formed)
   in-told x (refused n fs) m = m
@@ -57,6 +88,10 @@ stays x (n ∷ ns) fs cs m =
 pub split-passed : (ns rest : List ℕ) (cs : List Check) → Passed (ns ++ rest) cs → Passed ns cs × Passed rest cs
 split-passed [] rest cs h = (tt, h)
 split-passed (n ∷ ns) rest cs h = let w = split-passed ns rest cs (h .1) in ((h .0, w .0), w .1)
+
+pub append-passed : (ns rest : List ℕ) (cs : List Check) → Passed ns cs → Passed rest cs → Passed (ns ++ rest) cs
+append-passed [] rest cs h k = k
+append-passed (n ∷ ns) rest cs h k = (h .0, append-passed ns rest cs (h .1) k)
 
 -- a check is found by its number
 pub passed-at : (n : ℕ) (ns : List ℕ) (cs : List Check) → Passed ns cs → among n ns ≡ true → applies n cs ≡ false

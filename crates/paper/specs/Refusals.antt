@@ -4,7 +4,7 @@ use mathlib.Core.Bool.{Bool, true, false}
 use mathlib.Core.List.{List, [], _∷_, _++_}
 use Prim.Native.Nat.{ℕ, _+_, _-_, _*_, _%_, _^_}
 use lib.Dec.{eqb, ltb}
-use lib.ListN.{length}
+use lib.ListN.{length, drop}
 use Rattle.seqs.specs.Choose.{pick, either, opposite}
 use Rattle.seqs.specs.Bytes.{same, allZero}
 use Rattle.hex.specs.Hex.{allDigits}
@@ -29,6 +29,10 @@ plain n b = record { number = n; fails = b; forms = []; compares = [] }
 -- "Checked in this order"
 abbrev pub order : List ℕ
 order = 15 ∷ 1 ∷ 2 ∷ 3 ∷ 13 ∷ 14 ∷ 12 ∷ 4 ∷ 5 ∷ 6 ∷ 11 ∷ 7 ∷ 8 ∷ 9 ∷ 10 ∷ []
+
+-- the numbers of the checks on a request: behind those on the space, the line and the frame
+abbrev pub requestOrder : List ℕ
+requestOrder = drop 4 order
 
 -- ── the table, row by row ──
 
@@ -234,6 +238,10 @@ formedAt n cs = formsAll (those n cs)
 pub data Verdict : Type 0 where
   refused : ℕ → List Str → Verdict
   passed : List Str → Verdict
+
+abbrev pub formedBy : Verdict → List Str
+formedBy (refused n fs) = fs
+formedBy (passed fs) = fs
 
 abbrev pub judge : (numbers : List ℕ) → List Str → List Check → Verdict
 judge [] fs cs = passed fs

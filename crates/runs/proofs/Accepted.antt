@@ -13,7 +13,7 @@ use Rattle.paper.specs.Requests.{Request}
 use Rattle.paper.specs.Refusals.{Check, those, anyFails, formsAll, applies, formedAt, passed, judge, Passed}
 use Rattle.paper.specs.Module.{Told, told}
 use Rattle.paper.proofs.Early.{among, numbered}
-use Rattle.paper.proofs.Verdicts.{firstOf, number-is, passed-at}
+use Rattle.paper.proofs.Verdicts.{firstOf, number-is, in-those, fails-not, in-forms, passed-at}
 
 -- the test of a check that does not fail
 pub opposite-false : (b : Bool) → opposite b ≡ false → b ≡ true
@@ -24,30 +24,6 @@ opposite-false false h = absurd (true≢false h)
 abbrev pub NoneFails : List Check → Type 0
 NoneFails [] = Unit {0}
 NoneFails (c ∷ cs) = (c .fails ≡ false) × NoneFails cs
-
--- ── a check in its list ──
-
-in-those : (c : Check) (cs : List Check) → List·Memᴰ c cs → List·Memᴰ c (those (c .number) cs)
-in-those c (d ∷ cs) (List·Memᴰ·head e) = at-head (eqb (d .number) (c .number))
-    (eq-eqb _ _ (ap (λ (x : Check). x .number) (sym e)))
-  where
-    at-head : (b : Bool) → b ≡ true → List·Memᴰ c (pick b (d ∷ those (c .number) cs) (those (c .number) cs))
-    at-head true h = List·Memᴰ·head e
-    at-head false h = absurd (true≢false (sym h))
-in-those c (d ∷ cs) (List·Memᴰ·tail m) = behind (eqb (d .number) (c .number)) (in-those c cs m)
-  where
-    behind : (b : Bool) → List·Memᴰ c (those (c .number) cs)
-        → List·Memᴰ c (pick b (d ∷ those (c .number) cs) (those (c .number) cs))
-    behind true i = List·Memᴰ·tail i
-    behind false i = i
-
-either-false : (a b : Bool) → either a b ≡ false → (a ≡ false) × (b ≡ false)
-either-false true b h = absurd (true≢false h)
-either-false false b h = (refl, h)
-
-fails-not : (c : Check) (cs : List Check) → anyFails cs ≡ false → List·Memᴰ c cs → c .fails ≡ false
-fails-not c (d ∷ cs) h (List·Memᴰ·head e) = ap (λ (x : Check). x .fails) e ∙ either-false (d .fails) (anyFails cs) h .0
-fails-not c (d ∷ cs) h (List·Memᴰ·tail m) = fails-not c cs (either-false (d .fails) (anyFails cs) h .1) m
 
 -- ── passed, number by number and check by check ──
 
@@ -115,11 +91,6 @@ module _ (D : List ℕ → Dig) (s : Registers) (k : ℕ) (q : Request) (ns : Li
   accepted-passed z h = number-zero ns cs z (sym (number-is D s k q ns [] cs) ∙ h)
 
 -- ── strings formed ──
-
-in-forms : (x : Str) (c : Check) (cs : List Check) → List·Memᴰ c cs → List·Memᴰ x (c .forms) → List·Memᴰ x (formsAll cs)
-in-forms x c (d ∷ cs) (List·Memᴰ·head e) m =
-    Memᴰ·append-right (formsAll cs) (subst (λ (y : Check). List·Memᴰ x (y .forms)) e m)
-in-forms x c (d ∷ cs) (List·Memᴰ·tail i) m = Memᴰ·append-left (d .forms) (in-forms x c cs i m)
 
 kept : (x : Str) (ns : List ℕ) (fs : List Str) (cs : List Check) → List·Memᴰ x fs → List·Memᴰ x (formedAll ns fs cs)
 kept x [] fs cs m = m

@@ -16,10 +16,9 @@ use Rattle.paper.specs.declared.Registers.{Registers}
 use Rattle.paper.specs.Strings.{Dig, Memo, u1, v1, u2, ei, Str, node, entry, memo, enc, digest, WellFormed, blank, malformed, recordForms, parentForms, H, up, upForms, foldForms}
 use Rattle.paper.specs.Requests as Q
 use Rattle.paper.specs.Requests.{Request}
-use Rattle.paper.specs.Refusals.{Check, top, nextRecord, clearedRecord, placeForms, placeSays, tried, leafOf, leafForms, changeForms, changeSays, needs, those, formsAll, applies, formedAt, Verdict, refused, passed, judge}
+use Rattle.paper.specs.Refusals.{Check, top, nextRecord, clearedRecord, placeForms, placeSays, tried, leafOf, leafForms, changeForms, changeSays, needs, those, formsAll, applies, formedAt, Verdict, refused, passed, formedBy, judge}
 use Rattle.paper.specs.Answers.{answer}
 use Rattle.paper.specs.Module.{Told, told}
-use Rattle.paper.proofs.Verdicts.{formedBy}
 use Rattle.rings.proofs.Bridge.{record-32, parent-32}
 use Rattle.rings.proofs.Paths.{AllWide, fold-up-32}
 use Rattle.paper.proofs.Early.{late}

@@ -14,10 +14,9 @@ use Rattle.hex.proofs.Laws.{value-small}
 use Rattle.paper.specs.declared.Registers.{Registers}
 use Rattle.paper.specs.Strings.{Dig, Str}
 use Rattle.paper.specs.Requests.{Request, kindOf, known, fits, requestOf}
-use Rattle.paper.specs.Refusals.{replyRoom, isHex, Check, needs, Verdict, refused, passed, judge}
+use Rattle.paper.specs.Refusals.{replyRoom, isHex, Check, needs, Verdict, refused, passed, formedBy, judge}
 use Rattle.paper.specs.Module.{told, answerTo}
 use Rattle.paper.proofs.Early.{late, among, numbered, numbered-late, none-early}
-use Rattle.paper.proofs.Verdicts.{formedBy}
 use Rattle.rings.proofs.Nodes.{Within}
 use Rattle.runs.specs.Run.{Turn}
 use Rattle.runs.proofs.Accepted.{NoneFails, none-fails, judge-passed, accepted-passed, check-formed}
