@@ -121,8 +121,8 @@ under-the-ceiling s line space after o p =
     omega (arith, e, ceilings sha256 .line s line (length space))
 
 pub older-memorandum : OlderMemorandum
-older-memorandum s₀ s line space₀ space after o l p =
-    by-law (older-gets-8 sha256 sha256-length s₀ s line (length space₀) (length space) l)
+older-memorandum s₀ s line₀ line space₀ space after o l p =
+    by-law (older-gets-8 sha256 sha256-length s₀ s line₀ line (length space₀) (length space) l)
   where
     by-law : {C : Type 0} → (answerTo sha256 s line (length space) .refusal ≡ 8) ⊎ C → (o .refused ≡ 8) ⊎ C
     by-law (inl e) = inl (ap (λ (x : Answered). x .refused) (p .returned) ∙ e)

@@ -67,13 +67,14 @@ abbrev pub UnderTheCeiling : Type 0
 UnderTheCeiling = (s : Registers) (line space after : List ℕ) (o : Answered) → Promised s line space o after
     → o .blocks ≤ ceiling (requestOf (bytesOf line))
 
--- "A memorandum made for a set at an older c gets 8", or two strings formed then and now have one digest
+-- "A memorandum made for a set at an older c gets 8" in any later set that carries it, or two strings formed then and now have
+-- one digest
 abbrev pub OlderMemorandum : Type 0
-OlderMemorandum = (s₀ s : Registers) (line space₀ space after : List ℕ) (o : Answered)
-    → Later sha256 s₀ s line (length space₀) (length space) → Promised s line space o after
+OlderMemorandum = (s₀ s : Registers) (line₀ line space₀ space after : List ℕ) (o : Answered)
+    → Later sha256 s₀ s line₀ line (length space₀) (length space) → Promised s line space o after
     → (o .refused ≡ 8)
     ⊎ Collision sha256
-    (answerTo sha256 s₀ line (length space₀) .formed ++ answerTo sha256 s line (length space) .formed)
+    (answerTo sha256 s₀ line₀ (length space₀) .formed ++ answerTo sha256 s line (length space) .formed)
 
 -- a module that is not open takes any secret that is not all zero
 abbrev pub Opens : Type 0

@@ -2,31 +2,32 @@
 use mathlib.Core.Path.{_≡_, refl, _∙_}
 use mathlib.Core.Bool.{Bool, true, false, true≢false}
 use mathlib.Core.List.{List, [], _∷_, _++_}
-use Prim.Native.Nat.{ℕ, _*_, _/_, _%_, _≤_}
+use Prim.Native.Nat.{ℕ, zero, suc, _+_, _*_, _/_, _%_, _≤_}
 use native.Mathlib.Omega.{arith}
 use native.Mathlib.Decide.{decLe}
 use borrow.Author.Tests.{eq-eqb, ne-eqb, lt-ltb, le-ltb}
 use lib.Dec.{eqb}
-use lib.ListN.{length}
+use lib.ListN.{length, replicate}
 use Rattle.seqs.specs.Choose.{pick, opposite, _and_}
 use Rattle.seqs.specs.Bytes.{be64, allZero}
 use Rattle.hex.specs.Hex.{isDigit, valueOf, digitOf, lineOf, bytesOf}
 use Rattle.hex.proofs.Laws.{bytes-length}
 use Rattle.paper.specs.declared.Registers.{Registers}
 use Rattle.paper.specs.Strings.{Dig, nought, Str, node, cost, digest, parentForms, up, upForms, foldForms, malformed, inGap, recordHash, H}
-use Rattle.paper.specs.Requests.{kinds, known, fits, requestOf}
+use Rattle.paper.specs.Requests.{mostSiblings, kinds, known, fits, requestOf}
 use Rattle.paper.specs.Module.{unopened, answerTo}
 use Rattle.paper.proofs.Frames.{fits-path}
 use Rattle.paper.proofs.Ceilings.{cost-append}
 use Rattle.paper.proofs.Early.{none-early}
 use Rattle.paper.proofs.Room.{room}
-use Rattle.paper.specs.ByHand.{ByHand, NoneZero, NoZeroDigest, PathOf64, EdgesOf65, EveryRow, table, Runs, wholeRun}
+use Rattle.paper.specs.ByHand.{ByHand, NoneZero, NoZeroDigest, PathOf64, ones, PathReaches259, EdgesOf65, EveryRow, table, Runs, wholeRun}
 
 rows : (D : List ℕ → Dig) (u : Dig) → EveryRow D (table u)
 unfolding inGap H recordHash malformed
 rows D u =
     refl and refl and refl and refl and refl and refl and refl and refl and refl and refl and refl and refl and refl
-    and refl and refl and refl and refl and refl and refl and refl and refl and refl and refl and refl and tt
+    and refl and refl and refl and refl and refl and refl and refl and refl and refl and refl and refl
+    and refl and refl and refl and refl and tt
 
 -- q above, below or equal to A
 gap-of-one : (q A : ℕ) → eqb q 0 ≡ false → inGap q A A ≡ opposite (eqb q A)
@@ -96,6 +97,21 @@ path-of-64 D s x x′ sides l z n f f′ =
       fold-cost D x′ sides l (z .1 .0) (z .1 .1) f′,
     )
 
+none-zero : (n : ℕ) → NoneZero (replicate n ones)
+none-zero zero = tt
+none-zero (suc n) = (refl, none-zero n)
+
+never-zero : (l : List Str) → NoZeroDigest (λ b. ones) l
+never-zero [] = tt
+never-zero (s ∷ l) = (refl, never-zero l)
+
+path-reaches : PathReaches259
+path-reaches =
+    let l : List Dig = replicate mostSiblings ones in
+    let D : List ℕ → Dig = λ b. ones in
+    let f = never-zero (foldForms D ones 0 l) in
+    path-of-64 D (unopened nought) ones ones 0 l (none-zero (2 + mostSiblings)) refl f f
+
 -- 65 is above 64, whatever the sides say, and 65 siblings make more than 4,244 digits
 edges : (D : List ℕ → Dig) (s : Registers) (l : List ℕ) → EdgesOf65 D s l
 unfolding answerTo known kinds
@@ -116,4 +132,4 @@ unfolding isDigit valueOf digitOf lineOf kinds known fits requestOf be64 answerT
 run D = refl and refl and refl and refl and refl and refl and refl and refl and refl and tt
 
 pub by-hand : ByHand
-by-hand = record { rows = rows; gap-of-one = gap-of-one; path = path-of-64; room = room; edges = edges; run = run }
+by-hand = record { rows = rows; gap-of-one = gap-of-one; path = path-of-64; path-reaches = path-reaches; room = room; edges = edges; run = run }

@@ -13,8 +13,8 @@ use Rattle.hex.specs.Hex.{allDigits, bytesOf, digitsOf}
 use Rattle.paper.specs.declared.Record.{Record}
 use Rattle.paper.specs.declared.Registers.{Registers}
 use Rattle.paper.specs.Strings.{Dig, nought, Str, leaf, node, entry, memo, u1, v1, u2, ei, lengthOf, cost, malformed, inGap, digest, recordHash, H, foldForms}
-use Rattle.paper.specs.Requests.{path, kindOf}
-use Rattle.paper.specs.Refusals.{replyRoom}
+use Rattle.paper.specs.Requests.{mostSiblings, path, kindOf}
+use Rattle.paper.specs.Refusals.{longestFrame, longestLine, replyRoom, top}
 use Rattle.paper.specs.Answers.{answer}
 use Rattle.paper.specs.Module.{unopened, answerTo, replyLine}
 
@@ -35,6 +35,7 @@ pub data Row : Type 0 where
   bad : Record → (is : Bool) → Row
   count : (bytes : ℕ) → (many : ℕ) → Row
   bytes : Str → (long : ℕ) → Row
+  constant : (defined written : ℕ) → Row
 
 abbrev pub Says : (D : List ℕ → Dig) → Row → Type 0
 Says D (gap A A′ q lies) = inGap q A A′ ≡ lies
@@ -43,6 +44,7 @@ Says D (hash r d) = recordHash D r ≡ d
 Says D (bad r is) = malformed r ≡ is
 Says D (count n k) = blocks n ≡ k
 Says D (bytes s n) = lengthOf s ≡ n
+Says D (constant n k) = n ≡ k
 
 -- the table, for any u
 abbrev pub table : (u : Dig) → List Row
@@ -78,6 +80,12 @@ table u =
     ∷ bytes (memo (v1 u u) u) 97
     ∷ bytes (memo (u2 u u u u u u) u) 225
     ∷ bytes (memo (ei u u) u) 97
+    -- "The longest frame has 2,122 bytes, so 4,244 digits."; "c at 2^64 - 1"
+    ∷ constant longestFrame 2122
+    ∷ constant longestLine 4244
+    ∷ constant top 18446744073709551615
+    -- "from (5,10) one could insert 20": 20 is not in their gap
+    ∷ gap 5 10 20 false
     ∷ []
 
 abbrev pub EveryRow : (D : List ℕ → Dig) → List Row → Type 0
@@ -98,6 +106,14 @@ PathOf64 D = (s : Registers) (x x′ : Dig) (sides : ℕ) (l : List Dig) → Non
     → NoZeroDigest D (foldForms D x sides l) → NoZeroDigest D (foldForms D x′ sides l)
     → cost (answer D s (path x x′ sides l) .forms) ≡ 259
 
+-- and one that does: with a digest that is never zero
+abbrev pub ones : Dig
+ones = replicate 32 1
+
+abbrev pub PathReaches259 : Type 0
+PathReaches259 =
+    cost (answer (λ l. ones) (unopened nought) (path ones ones 0 (replicate mostSiblings ones)) .forms) ≡ 259
+
 -- "Replies of 194 bytes of space get 15, 195 do.": 195 hold the longest reply's line, with its 0A
 pub record Room (D : List ℕ → Dig) (s : Registers) (line : List ℕ) : Type 0 where
   pub too-small : (space : ℕ) → space ≤ 194 → answerTo D s line space .refusal ≡ 15
@@ -106,7 +122,7 @@ pub record Room (D : List ℕ → Dig) (s : Registers) (line : List ℕ) : Type 
 
 -- "n = 65 in a frame of 2,122 bytes gets 3, with all its 65 siblings the line is too long and gets 1"
 pub record EdgesOf65 (D : List ℕ → Dig) (s : Registers) (l : List ℕ) : Type 0 where
-  pub gets-3 : allDigits l ≡ true → length l ≡ 2 * 2122 → kindOf (bytesOf l) ≡ 1 → getD (bytesOf l) 65 0 ≡ 65
+  pub gets-3 : allDigits l ≡ true → length l ≡ longestLine → kindOf (bytesOf l) ≡ 1 → getD (bytesOf l) 65 0 ≡ 65
       → answerTo D s l replyRoom .refusal ≡ 3
   pub gets-1 : length l ≡ 2 * (74 + 32 * 65) → answerTo D s l replyRoom .refusal ≡ 1
 
@@ -150,6 +166,7 @@ pub record ByHand : Type 1 where
   -- "So with A = A', every number but A."
   pub gap-of-one : (q A : ℕ) → eqb q 0 ≡ false → inGap q A A ≡ opposite (eqb q A)
   pub path : (D : List ℕ → Dig) → PathOf64 D
+  pub path-reaches : PathReaches259
   pub room : (D : List ℕ → Dig) → ((l : List ℕ) → length (D l) ≡ 32) → (s : Registers) (line : List ℕ) → Room D s line
   pub edges : (D : List ℕ → Dig) (s : Registers) (l : List ℕ) → EdgesOf65 D s l
   pub run : (D : List ℕ → Dig) → Runs D (unopened nought) wholeRun

@@ -36,9 +36,15 @@ requestOrder = drop 4 order
 
 -- ── the table, row by row ──
 
--- "The longest frame has 2,122 bytes, so 4,244 digits."
+-- "The longest frame has 2,122 bytes, so 4,244 digits.": a path's kind, x, x', n and sides, and its siblings
+abbrev pub beforeSiblings : ℕ
+beforeSiblings = 74
+
 abbrev pub longestFrame : ℕ
-longestFrame = 74 + 32 * mostSiblings
+longestFrame = beforeSiblings + 32 * mostSiblings
+
+abbrev pub longestLine : ℕ
+longestLine = 2 * longestFrame
 
 -- 15: the space is shorter than what has to fit it; for the module, "reply space under 195 bytes"
 abbrev pub roomFor : (need space : ℕ) → Check
@@ -53,7 +59,7 @@ isHex line =
     plain 1
     (either (eqb (length line) 0)
     (either (eqb (length line % 2) 1)
-    (either (ltb (2 * longestFrame) (length line)) (opposite (allDigits line)))))
+    (either (ltb longestLine (length line)) (opposite (allDigits line)))))
 
 -- 2: "kind not in the table"
 abbrev pub isKind : ℕ → Check
