@@ -20,7 +20,7 @@ use Rattle.paper.specs.Module.{refusalOf, checksOf}
 use Rattle.paper.specs.Collisions.{Collision}
 use Rattle.paper.specs.Shortcuts.{verdictOn, refusalFor, Shortcuts}
 use Rattle.paper.proofs.Early.{among, numbered, numbered-late}
-use Rattle.paper.proofs.Verdicts.{firstOf, verdict-number, in-those, fails-not, in-forms, passed-number, append-passed, reached}
+use Rattle.paper.proofs.Verdicts.{firstOf, refusal-first, in-those, fails-not, in-forms, passed-number, append-passed, reached}
 use Rattle.paper.proofs.Older.{memo-tells}
 
 -- ── every number is in the order ──
@@ -150,7 +150,7 @@ module _ (D : List ℕ → Dig) where
     ZeroFormed = (x : Str) × List·Memᴰ x (formedBy (verdictOn D s q)) × (digest D x ≡ nought)
 
     number : refusalFor D s q ≡ firstOf (8 ∷ 9 ∷ 10 ∷ []) cs
-    number = verdict-number requestOrder [] cs ∙ passed-number (numbersBefore 8 requestOrder) (8 ∷ 9 ∷ 10 ∷ []) cs h
+    number = refusal-first requestOrder [] cs ∙ passed-number (numbersBefore 8 requestOrder) (8 ∷ 9 ∷ 10 ∷ []) cs h
 
     -- where 8 and 9 are passed, the string is formed
     passed-both : applies 8 cs ≡ false → applies 9 cs ≡ false → ZeroFormed

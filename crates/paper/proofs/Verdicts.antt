@@ -54,11 +54,11 @@ number-step : (b : Bool) (n : ℕ) (fs : List Str) (v : Verdict) (m : ℕ) → r
 number-step true n fs v m h = refl
 number-step false n fs v m h = h
 
-pub verdict-number : (ns : List ℕ) (fs : List Str) (cs : List Check) → refusalOf (judge ns fs cs) ≡ firstOf ns cs
-verdict-number [] fs cs = refl
-verdict-number (n ∷ ns) fs cs =
+pub refusal-first : (ns : List ℕ) (fs : List Str) (cs : List Check) → refusalOf (judge ns fs cs) ≡ firstOf ns cs
+refusal-first [] fs cs = refl
+refusal-first (n ∷ ns) fs cs =
     number-step (applies n cs) n (formedAt n cs ++ fs) (judge ns (formedAt n cs ++ fs) cs) (firstOf ns cs)
-    (verdict-number ns (formedAt n cs ++ fs) cs)
+    (refusal-first ns (formedAt n cs ++ fs) cs)
 
 module _ (D : List ℕ → Dig) (s : Registers) (k : ℕ) (q : Request) where
   told-number : (v : Verdict) → told D s k q v .refusal ≡ refusalOf v
@@ -66,7 +66,7 @@ module _ (D : List ℕ → Dig) (s : Registers) (k : ℕ) (q : Request) where
   told-number (passed fs) = refl
 
   pub number-is : (ns : List ℕ) (fs : List Str) (cs : List Check) → told D s k q (judge ns fs cs) .refusal ≡ firstOf ns cs
-  number-is ns fs cs = told-number (judge ns fs cs) ∙ verdict-number ns fs cs
+  number-is ns fs cs = told-number (judge ns fs cs) ∙ refusal-first ns fs cs
 
   pub in-told : (x : Str) (v : Verdict) → List·Memᴰ x (formedBy v) → List·Memᴰ x (told D s k q v .formed)
   in-told x (refused n fs) m = m

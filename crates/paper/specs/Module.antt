@@ -19,23 +19,30 @@ abbrev pub refusalOf : Verdict → ℕ
 refusalOf (refused n fs) = n
 refusalOf (passed fs) = 0
 
--- "Reading a line into frame space refuses 1, 2, 3 as below, then 15 if the space is shorter than the frame"
+-- the order of both
+abbrev pub lineOrder : List ℕ
+lineOrder = 1 ∷ 2 ∷ 3 ∷ 15 ∷ []
+
 abbrev pub frameChecks : List ℕ → List Check
 frameChecks f = isKind (kindOf f) ∷ isFrame f ∷ []
 
+-- "Reading a line into frame space refuses 1, 2, 3 as below, then 15 if the space is shorter than the frame"
+abbrev pub readChecks : (line : List ℕ) (space : ℕ) → List Check
+readChecks line space = let f = bytesOf line in isHex line ∷ roomFor (length f) space ∷ frameChecks f
+
 unfoldable pub readRefusal : (line : List ℕ) (space : ℕ) → ℕ
-readRefusal line space =
-    let f = bytesOf line in
-    refusalOf (judge (1 ∷ 2 ∷ 3 ∷ 15 ∷ []) [] (isHex line ∷ roomFor (length f) space ∷ frameChecks f))
+readRefusal line space = refusalOf (judge lineOrder [] (readChecks line space))
 
 -- "Writing a frame refuses ..: empty or longer than that 1, then 2 and 3 as below, then 15 if the space is
 -- shorter than the line", with its 0A
 abbrev pub isWritable : List ℕ → Check
 isWritable f = plain 1 (either (eqb (length f) 0) (ltb longestFrame (length f)))
 
+abbrev pub writeChecks : (frame : List ℕ) (space : ℕ) → List Check
+writeChecks f space = isWritable f ∷ roomFor (2 * length f + 1) space ∷ frameChecks f
+
 unfoldable pub writeRefusal : (frame : List ℕ) (space : ℕ) → ℕ
-writeRefusal f space =
-    refusalOf (judge (1 ∷ 2 ∷ 3 ∷ 15 ∷ []) [] (isWritable f ∷ roomFor (2 * length f + 1) space ∷ frameChecks f))
+writeRefusal f space = refusalOf (judge lineOrder [] (writeChecks f space))
 
 -- ── the module ──
 
