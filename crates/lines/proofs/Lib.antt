@@ -1,3 +1,4 @@
 pub mod Fitting
+pub mod Follows
 pub mod Outcomes
 pub mod RoundTrip
