@@ -99,6 +99,6 @@ own-by f true h =
     frame-by f ∙ rw (fits-by-kind f (decLt 1 (kindOf f)) (p .0) (p .1))
 
 -- a frame's own refusal, as a call found it by its numbers
-pub own-found : (f : List ℕ) {k long n sides : ℕ} → k ≡ kindOf f → long ≡ length f → n ≡ getD f 65 0 → sides ≡ numberAt f 66
-    → refusalBy k long n sides ≡ own f
+pub own-found : (f : List ℕ) {k size n sides : ℕ} → k ≡ kindOf f → size ≡ length f → n ≡ getD f 65 0 → sides ≡ numberAt f 66
+    → refusalBy k size n sides ≡ own f
 own-found f ek el en es = (λ i. refusalBy (ek i) (el i) (en i) (es i)) ∙ sym (own-by f (known (kindOf f)) refl)

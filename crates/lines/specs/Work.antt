@@ -13,12 +13,12 @@ abbrev pub lengths : List ℕ
 lengths = 0 ∷ 74 ∷ 97 ∷ 257 ∷ 321 ∷ 321 ∷ 161 ∷ 9 ∷ 153 ∷ 97 ∷ 161 ∷ 97 ∷ 169 ∷ 145 ∷ 121 ∷ 9 ∷ 33 ∷ []
 
 -- a frame of kind k with so many bytes, its byte 65 being n and the number behind that sides
-unfoldable pub fitting : (k long n sides : ℕ) → Bool
-fitting k long n sides =
+unfoldable pub fitting : (k size n sides : ℕ) → Bool
+fitting k size n sides =
     pick (eqb k 1)
-    (both (eqb long (74 + 32 * n)) (both (leb n 64) (eqb (sides / 2 ^ n) 0)))
-    (eqb long (getD lengths k 0))
+    (both (eqb size (74 + 32 * n)) (both (leb n 64) (eqb (sides / 2 ^ n) 0)))
+    (eqb size (getD lengths k 0))
 
 -- the first of refusals 2 and 3 of such a frame, and else 0
-unfoldable pub refusalBy : (k long n sides : ℕ) → ℕ
-refusalBy k long n sides = pick (opposite (known k)) 2 (pick (opposite (fitting k long n sides)) 3 0)
+unfoldable pub refusalBy : (k size n sides : ℕ) → ℕ
+refusalBy k size n sides = pick (opposite (known k)) 2 (pick (opposite (fitting k size n sides)) 3 0)

@@ -83,28 +83,28 @@ fn sides_fit(n: u8, sides: u64) -> bool
 }
 
 // A path's frame of so many bytes, with n and sides.
-fn path_fits(length: usize, n: u8, sides: u64) -> bool
-    ensures { λ r. ⌜ r ≡ fitting 1 length n sides ⌝ }
+fn path_fits(size: usize, n: u8, sides: u64) -> bool
+    ensures { λ r. ⌜ r ≡ fitting 1 size n sides ⌝ }
 {
     if 64 < n {
         return false;
     }
-    if length != 74 + 32 * (n as usize) {
+    if size != 74 + 32 * (n as usize) {
         return false;
     }
     sides_fit(n, sides)
 }
 
 // Check 3 of a frame whose kind is in the table.
-fn frame_fits(kind: u8, length: usize, n: u8, sides: u64) -> bool
+fn frame_fits(kind: u8, size: usize, n: u8, sides: u64) -> bool
     requires { ⌜ (1 ≤ kind) × (kind ≤ 16) ⌝ }
-    ensures { λ r. ⌜ r ≡ fitting kind length n sides ⌝ }
+    ensures { λ r. ⌜ r ≡ fitting kind size n sides ⌝ }
 {
     if kind == 1 {
-        return path_fits(length, n, sides);
+        return path_fits(size, n, sides);
     }
     let at = kind as usize;
-    length == LENGTHS[at]
+    size == LENGTHS[at]
 }
 
 // The eight bytes that a line has for sides, if it is a path.
@@ -123,14 +123,14 @@ fn sides_of(line: &[u8]) -> u64
     )
 }
 
-// The first of refusals 2 and 3 of a frame of this kind and length, with n and sides if it is a path, and else 0.
-fn refusal_by(kind: u8, length: usize, n: u8, sides: u64) -> u8
-    ensures { λ r. ⌜ r ≡ refusalBy kind length n sides ⌝ }
+// The first of refusals 2 and 3 of a frame of this kind and size, with n and sides if it is a path, and else 0.
+fn refusal_by(kind: u8, size: usize, n: u8, sides: u64) -> u8
+    ensures { λ r. ⌜ r ≡ refusalBy kind size n sides ⌝ }
 {
     if !known_kind(kind) {
         return 2;
     }
-    if !frame_fits(kind, length, n, sides) {
+    if !frame_fits(kind, size, n, sides) {
         return 3;
     }
     0

@@ -101,10 +101,10 @@ fn bytes_of(s: State) -> [u8; 32]
 
 // The blocks of a message of so many bytes, once it is padded. The quotient is taken in two parts, so that
 // no length is too large for it.
-pub fn blocks(length: usize) -> usize
-    ensures { λ r. ⌜ r ≡ Counted.blocks length ⌝ }
+pub fn blocks(bytes: usize) -> usize
+    ensures { λ r. ⌜ r ≡ Counted.blocks bytes ⌝ }
 {
-    length / 64 + (length % 64 + 8) / 64 + 1
+    bytes / 64 + (bytes % 64 + 8) / 64 + 1
 }
 
 // The digest of any message.
