@@ -4,7 +4,7 @@ use mathlib.Core.Bool.{Bool, true, false, not}
 use mathlib.Core.List.{List, [], _∷_, _++_}
 use Prim.Native.Nat.{ℕ, suc, _+_, _≤_}
 use native.Mathlib.Omega.{arith}
-use borrow.Author.Tests.{le-leb}
+use borrow.Author.Tests.{le-leb, lt-ltb}
 use lib.ListN.{length, drop}
 use Rattle.seqs.specs.Choose.{pick, either, opposite, either-no}
 use Rattle.seqs.specs.Bytes.{same, allZero}
@@ -18,7 +18,7 @@ use Rattle.paper.specs.Refusals.{Check, plain, order, needs, Verdict, refused, 
 use Rattle.paper.specs.Answers.{answer}
 use Rattle.paper.specs.Module.{told}
 use Rattle.paper.proofs.Ceilings.{cost-append}
-use Rattle.replies.specs.Outcomes.{outcomeOf, outcome, refusal, acceptance}
+use Rattle.replies.specs.Outcomes.{outcomeOf, outcome, refusal, answerLength, acceptance}
 
 -- ── one check after the other ──
 
@@ -121,12 +121,12 @@ module _ {s : Registers} {kind : ℕ} {q : Q.Request} where
   pub answers : {n k : ℕ} {l : List ℕ} → Left s kind q [] n → l ≡ answer sha256 s q .lists
       → k ≡ cost (answer sha256 s q .forms) + n → length l ≤ 96
       → acceptance (answer sha256 s q .after) (0x80 + kind) l k ≡ outcome s kind q
-  unfolding outcome putAt
+  unfolding outcome answerLength putAt
   answers {n} {k} {l} p lists count room =
       let a = answer sha256 s q in
       let h : k ≡ cost (a .forms ++ p .formed) = omega (arith, count, p .count, cost-append (a .forms) (p .formed)) in
       let e : 1 + length l ≡ suc (length l) = omega arith in
-      rw (p .so, ← lists, ← h, le-leb (1 + length l) 97 (omega arith), e)
+      rw (p .so, ← lists, ← h, le-leb (1 + length l) 97 (omega arith), lt-ltb (length l) 97 (omega arith), e)
 
   -- an answer that lists one digest
   pub issues : {n k : ℕ} {l : Dig} (t : Str) → Left s kind q [] n → l ≡ digest sha256 t
