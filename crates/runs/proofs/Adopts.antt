@@ -18,11 +18,11 @@ use Rattle.paper.specs.Answers as Does
 use Rattle.paper.specs.Answers.{Change, rooted, issue, answer}
 use Rattle.rings.specs.Changes.{Step, insertion, removal, doSteps, reversed}
 use Rattle.runs.specs.Run.{Issue, meaning, World}
+use Rattle.runs.specs.Sizes.{InEightBytes}
 use Rattle.runs.specs.Ways.{Fork, leftOne, rightOne, Edit}
 use Rattle.runs.specs.Honest.{sayU2, sayEI, turned, note, turnRound, takeOver, relinked, gone, onLeftFoot, onRightFoot, without, placed, alone}
 use Rattle.runs.specs.Liveness.{AllIssued}
 use Rattle.runs.proofs.Accepted.{NoneFails}
-use Rattle.runs.proofs.Widths.{Small}
 use Rattle.runs.proofs.Parts.{IsDigest}
 use Rattle.runs.proofs.Frames.{Sendable}
 use Rattle.runs.proofs.Climbs.{nought-digest, IsEdit, risen-two-is}
@@ -97,7 +97,7 @@ module _ {D : List ℕ → Dig} {w : World} (r : Ready D w) where
   pub alone-is : (A : ℕ) → IsEdit (alone D s A)
   alone-is A = record { old = nought-digest; new = DD _ }
 
-  pub first-line : (A : ℕ) → Small A → 0 < A → Heads D w (Q.first A ∷ []) (sayEI (alone D s A)) (insertion A ∷ [])
+  pub first-line : (A : ℕ) → InEightBytes A → 0 < A → Heads D w (Q.first A ∷ []) (sayEI (alone D s A)) (insertion A ∷ [])
   first-line A small positive =
       heads-line D w (Q.first A) [] (leaf A A nought ∷ []) (sayEI (alone D s A)) (Does.adds A) small
       (is-open r, (not-zero A positive, tt)) tt refl
@@ -127,8 +127,8 @@ module _ {D : List ℕ → Dig} {w : World} (r : Ready D w) where
   without-is f B A B′ ω = let h = place-feet f B A B′ ω in risen-two-is DD f _ _ (h .0) (h .1)
 
   -- U2 and place
-  pub place-lines : (f : Fork) (B A B′ : ℕ) (ω : Dig) → Small B → Small A → Small B′ → IsDigest ω → 0 < B → 0 < A → 0 < B′
-      → inGap A B B′ ≡ true → Heads D w (placed D s f B A B′ ω) (sayEI (without D s f B A B′ ω)) (removal A ∷ [])
+  pub place-lines : (f : Fork) (B A B′ : ℕ) (ω : Dig) → InEightBytes B → InEightBytes A → InEightBytes B′ → IsDigest ω → 0 < B
+      → 0 < A → 0 < B′ → inGap A B B′ ≡ true → Heads D w (placed D s f B A B′ ω) (sayEI (without D s f B A B′ ω)) (removal A ∷ [])
   place-lines f B A B′ ω sB sA sB′ hω pB pA pB′ gap =
       let a = onLeftFoot D s f B A B′ ω in
       let b = onRightFoot D s f B A B′ ω in

@@ -113,7 +113,7 @@ honest-replayed D D32 live k ts opened below t x legal = do
   c ← run D D32 k (onwards us ts)
   inr (record {
     items = sym e ∙ l .grants t x legal .items;
-    stands = stands-of D D32 (after D k (onwards us ts)) (c .0);
+    stands = stands-of D D32 (after D k (onwards us ts)) (c .0) (side D D32 k (onwards us ts) .well);
   })
 
 pub also : Also

@@ -24,21 +24,21 @@ use Rattle.rings.proofs.Items.{listed?}
 use Rattle.rings.proofs.Ring.{gap-free}
 use Rattle.rings.proofs.Find.{item-leaf, spot}
 use Rattle.runs.specs.Run.{Items, last, Issue, World, toldAt, next}
+use Rattle.runs.specs.Sizes.{InEightBytes, ItemFits}
 use Rattle.runs.specs.Frames.{turnOf, turnsOf}
 use Rattle.runs.specs.Ways.{itemOf, nextOf, hashIn, tellsOf, has, found, wayTo, rise}
 use Rattle.runs.specs.Honest.{recordOf, note, onePlace, leafLines, askLines}
 use Rattle.runs.specs.Liveness.{lastReply, TrueReply, finding, nothing-listed}
 use Rattle.runs.proofs.Accepted.{NoneFails}
-use Rattle.runs.proofs.Widths.{Small}
 use Rattle.runs.proofs.Safe.{true-finding}
 use Rattle.runs.proofs.Parts.{IsDigest}
 use Rattle.runs.proofs.Frames.{Sendable}
 use Rattle.runs.proofs.Climbs.{rise-digest}
-use Rattle.runs.proofs.Sizes.{record-is, Decent}
+use Rattle.runs.proofs.Sizes.{record-is}
 use Rattle.runs.proofs.Fed.{at, run, told-is, Leads, leads-on, leads-one, Got, then, Brings, brings}
 use Rattle.runs.proofs.Reach.{is-open, note-digest, fits-own, one-place, witness-line}
 use Rattle.runs.proofs.Adopts.{not-zero, at-root}
-use Rattle.runs.proofs.Standing.{InRing, Ground, spot-by, spotted, item-digest}
+use Rattle.runs.proofs.Standing.{InRing, Ground, spot-by, spotted, item-digest, above-zero}
 
 module _ (D : List ℕ → Dig) where
   -- the reply to the last of some requests
@@ -98,7 +98,7 @@ module _ {D : List ℕ → Dig} {w : World} {T : Tree} (g : Ground D w T) where
             (sym (last-is D w a p ∙ ap (λ (v : World). toldAt D v (turnOf p) .says) (h .leads .to))) t;
       }
 
-  module _ (q : ℕ) (small : Small q) (positive : 0 < q) where
+  module _ (q : ℕ) (small : InEightBytes q) (positive : 0 < q) where
     by-leaf : has (tellsOf q) T ≡ true → Answers q (leafLines D s q T (w .items))
     by-leaf have =
         let t = spotted g (tellsOf q) have in
@@ -107,7 +107,7 @@ module _ {D : List ℕ → Dig} {w : World} {T : Tree} (g : Ground D w T) where
         let A′ = nextOf z in
         let r = recordOf A (w .items) in
         let k : r ≡ t .held = record-is 0 A (t .held) (w .items) (g .ascending) (t .listed) in
-        let d : Decent A r = rw k (g .decent A (t .held) (t .listed)) in
+        let d : ItemFits A r = rw k (g .fits A (t .held) (t .listed)) in
         let x = digest D (leafOf D A A′ r) in
         let p = wayTo (tellsOf q) T in
         let y = rise D p x in
@@ -121,13 +121,13 @@ module _ {D : List ℕ → Dig} {w : World} {T : Tree} (g : Ground D w T) where
         let a = Q.ask q A A′ r y m in
         let v = at w (h .formed) (h .book) in
         let ok : Sendable a =
-        (small, d .small, t .next-small, d .small-record, (hy, (note-digest (g .ready) (v1 x y), tt))) in
+        (small, d .number-fits, t .next-fits, d .record-fits, (hy, (note-digest (g .ready) (v1 x y), tt))) in
         let n : NoneFails (needs D s a) =
-        is-open (g .ready) and not-zero q positive and not-zero A (d .positive) and not-zero A′ (t .next-positive)
-        and d .sound and rw (t .passes) refl and fits-own (g .ready) (v1 x y) and at-root y (s .root) e and tt in
+        is-open (g .ready) and not-zero q positive and not-zero A (above-zero g A (t .held) (t .listed)) and not-zero A′ (t .next-positive)
+        and d .well-formed and rw (t .passes) refl and fits-own (g .ready) (v1 x y) and at-root y (s .root) e and tt in
         let on = subst (InRing D w) (at-z z (recordHash D r) (ap (recordHash D) k ∙ t .hash-is)) (t .in-ring) in
         let listed : Listed A r (w .items) = subst (λ (u : Record). Listed A u (w .items)) (sym k) (t .listed) in
-        let true-of = true-finding D (λ l. DD l .wide) (w .formed) (w .items) q A A′ r (d .sound) (t .passes) (
+        let true-of = true-finding D (λ l. DD l .wide) (w .formed) (w .items) q A A′ r (d .well-formed) (t .passes) (
           listed,
           (λ c j. gap-free (recordHash D) c A A′ (recordHash D r) (w .items) (g .ascending) (gap-holds c A A′ j) on),
           occurs _ _ on,

@@ -22,7 +22,8 @@ use Rattle.paper.specs.Module.{Told, told}
 use Rattle.rings.proofs.Bridge.{record-32, parent-32}
 use Rattle.rings.proofs.Paths.{AllWide, fold-up-32}
 use Rattle.paper.proofs.Early.{late}
-use Rattle.runs.proofs.Widths.{Is32, Small, SmallRecord, Wide}
+use Rattle.runs.specs.Sizes.{InEightBytes, RecordFits}
+use Rattle.runs.proofs.Widths.{Is32, Wide}
 
 -- ── lists of well formed strings ──
 
@@ -43,7 +44,7 @@ well-pick true l m h k = h
 well-pick false l m h k = k
 
 -- a counter below 2 ^ 64 stays so: at its top nothing is set or cleared
-pub below-top : (c : ℕ) → Small c → eqb c top ≡ false → Small (c + 1)
+pub below-top : (c : ℕ) → InEightBytes c → eqb c top ≡ false → InEightBytes (c + 1)
 below-top c h e = omega (arith, eqb-false c top e)
 
 -- ── the strings of checks ──
@@ -86,15 +87,15 @@ module _ (D : List ℕ → Dig) (D32 : (l : List ℕ) → length (D l) ≡ 32) w
   well-tried k (t ∷ l) m h =
       (h .0, well-pick (same (digest D (memo t k)) m) [] (tried D k l m) tt (well-tried k l m (h .1)))
 
-  well-record : (r : Record) → SmallRecord r → Well (recordForms r)
+  well-record : (r : Record) → RecordFits r → Well (recordForms r)
   unfolding recordForms
   well-record r h = well-pick (blank r) [] (entry r ∷ []) tt ((h .0 and h .1 and h .2 and h .3 and tt), tt)
 
-  well-leaf : (A A′ : ℕ) (r : Record) → Small A → Small A′ → SmallRecord r → Well (leafForms D A A′ r)
+  well-leaf : (A A′ : ℕ) (r : Record) → InEightBytes A → InEightBytes A′ → RecordFits r → Well (leafForms D A A′ r)
   well-leaf A A′ r hA hA′ h =
       well-append (recordForms r) (leafOf D A A′ r ∷ []) (well-record r h) ((hA and hA′ and record-32 D D32 r and tt), tt)
 
-  well-change : (A A′ : ℕ) (old new : Record) → Small A → Small A′ → SmallRecord old → SmallRecord new
+  well-change : (A A′ : ℕ) (old new : Record) → InEightBytes A → InEightBytes A′ → RecordFits old → RecordFits new
       → Well (changeForms D A A′ old new)
   well-change A A′ old new hA hA′ h k =
       well-append (leafForms D A A′ old) (leafForms D A A′ new) (well-leaf A A′ old hA hA′ h) (well-leaf A A′ new hA hA′ k)
@@ -172,14 +173,14 @@ module _ (D : List ℕ → Dig) (D32 : (l : List ℕ) → length (D l) ≡ 32) w
     says-after l t m k h = well-append l (tried D key (t ∷ []) m) k (says t m h)
 
     -- of a set or a clear
-    says-change : (A A′ : ℕ) (old new : Record) (y y′ m : Dig) → Small A → Small A′ → SmallRecord old → SmallRecord new → Is32 y
+    says-change : (A A′ : ℕ) (old new : Record) (y y′ m : Dig) → InEightBytes A → InEightBytes A′ → RecordFits old → RecordFits new → Is32 y
         → Is32 y′ → Is32 key → Well (changeForms D A A′ old new ++ tried D key (changeSays D A A′ old new y y′ ∷ []) m)
     says-change A A′ old new y y′ m hA hA′ ho hn hy hy′ k =
         says-after (changeForms D A A′ old new) (changeSays D A A′ old new y y′) m (well-change A A′ old new hA hA′ ho hn)
         (d32 _ and hy and d32 _ and hy′ and k and tt)
 
     -- check by check of its list; `tt` is one that forms nothing
-    forms : (q : Request) → Small (s .counter .0) → Wide q → Forms s q
+    forms : (q : Request) → InEightBytes (s .counter .0) → Wide q → Forms s q
     forms (Q.path x x′ sides l) c w = of-checks (λ o. rw o refl) (λ k. tt and tt)
     forms (Q.witness x y m) c w =
         of-checks (λ o. rw o refl) (λ k. tt and says (u1 x y x y) m (w .0 and w .1 and w .0 and w .1 and k and tt) and tt)
@@ -221,13 +222,13 @@ module _ (D : List ℕ → Dig) (D32 : (l : List ℕ) → length (D l) ≡ 32) w
         by-counter true e = none-at-all (λ kind. at-top s kind A A′ old v y y′ m e)
         by-counter false e =
             let new = nextRecord s v in
-            let new-small : SmallRecord new = (below-top (s .counter .0) c e, w .3 .0, w .3 .1, w .3 .2) in
+            let new-small : RecordFits new = (below-top (s .counter .0) c e, w .3 .0, w .3 .1, w .3 .2) in
             of-checks (λ o. rw o refl) (λ k.
             tt and tt and tt and tt and tt
             and says-change A A′ old new y y′ m (w .0) (w .1) (w .2) new-small (w .4) (w .5) k and tt and tt)
     forms (Q.clear A A′ old y y′ m) c w =
         of-checks (λ o. rw o refl) (λ k.
-        let zeros : SmallRecord clearedRecord = (omega arith, omega arith, omega arith, omega arith) in
+        let zeros : RecordFits clearedRecord = (omega arith, omega arith, omega arith, omega arith) in
         tt and tt and tt and tt and tt and tt
         and says-change A A′ old clearedRecord y y′ m (w .0) (w .1) (w .2) zeros (w .3) (w .4) k and tt and tt)
     forms (Q.ask q A A′ r y m) c w =
@@ -269,7 +270,7 @@ module _ (D : List ℕ → Dig) (D32 : (l : List ℕ) → length (D l) ≡ 32) w
 
     -- ── a line that is read ──
 
-    pub closed-forms : (kind : ℕ) (q : Request) → Small (s .counter .0) → Wide q → s .opened ≡ false
+    pub closed-forms : (kind : ℕ) (q : Request) → InEightBytes (s .counter .0) → Wide q → s .opened ≡ false
         → answered s kind q .formed ≡ []
     closed-forms kind q c w o = by-forms (forms q c w)
       where
@@ -277,7 +278,7 @@ module _ (D : List ℕ → Dig) (D32 : (l : List ℕ) → length (D l) ≡ 32) w
         by-forms (none-at-all e) = e kind
         by-forms (of-checks e h) = ap (λ (v : Verdict). told D s kind q v .formed) (e o)
 
-    pub well-formed : (kind : ℕ) (q : Request) → Small (s .counter .0) → Is32 key → Wide q → Well (answered s kind q .formed)
+    pub well-formed : (kind : ℕ) (q : Request) → InEightBytes (s .counter .0) → Is32 key → Wide q → Well (answered s kind q .formed)
     well-formed kind q c k w = by-forms (forms q c w)
       where
         by-verdict : (v : Verdict) → Well (formedBy v) → Well (told D s kind q v .formed)

@@ -17,8 +17,7 @@ use Rattle.paper.specs.Requests as Q
 use Rattle.paper.specs.Requests.{Request, Carried, aDigest, sidesIn, Kind, kinds, kindOf, known, rowOf, takesAll, fits, requestOf}
 use Rattle.paper.specs.Refusals.{isHex}
 use Rattle.runs.specs.Frames.{together, pathBytes, written, frameOf}
-use Rattle.runs.specs.Wishes.{ValuesFit}
-use Rattle.runs.proofs.Widths.{Small, SmallRecord}
+use Rattle.runs.specs.Sizes.{InEightBytes, ValuesFit, RecordFits}
 use Rattle.runs.proofs.Parts.{AllDigests, ShapedAll, most, shaped-row, part-at, shaped-number, shaped-digest, shaped-record, shaped-values, sides-small, sides-back, shaped-path, siblings-back, record-back, values-back}
 
 -- ── requests that a line can carry ──
@@ -30,16 +29,16 @@ Sendable (Q.join x y x′ y′ m1 z z′ m2) = AllDigests (x ∷ y ∷ x′ ∷ 
 Sendable (Q.pair x1 y x1′ y′ m1 x2 z x2′ z′ m2) = AllDigests (x1 ∷ y ∷ x1′ ∷ y′ ∷ m1 ∷ x2 ∷ z ∷ x2′ ∷ z′ ∷ m2 ∷ [])
 Sendable (Q.raise x1 x2 y x1′ x2′ y′ m1 z z′ m2) = AllDigests (x1 ∷ x2 ∷ y ∷ x1′ ∷ x2′ ∷ y′ ∷ m1 ∷ z ∷ z′ ∷ m2 ∷ [])
 Sendable (Q.swap x1 x2 y y′ m) = AllDigests (x1 ∷ x2 ∷ y ∷ y′ ∷ m ∷ [])
-Sendable (Q.first A) = Small A
-Sendable (Q.place A A′ B′ ω y y′ m) = Small A × Small A′ × Small B′ × AllDigests (ω ∷ y ∷ y′ ∷ m ∷ [])
+Sendable (Q.first A) = InEightBytes A
+Sendable (Q.place A A′ B′ ω y y′ m) = InEightBytes A × InEightBytes A′ × InEightBytes B′ × AllDigests (ω ∷ y ∷ y′ ∷ m ∷ [])
 Sendable (Q.turn x y m) = AllDigests (x ∷ y ∷ m ∷ [])
 Sendable (Q.chain x y m1 z m2) = AllDigests (x ∷ y ∷ m1 ∷ z ∷ m2 ∷ [])
 Sendable (Q.adopt y y′ m) = AllDigests (y ∷ y′ ∷ m ∷ [])
 Sendable (Q.setTo A A′ old v y y′ m) =
-    Small A × Small A′ × SmallRecord old × ValuesFit v × AllDigests (y ∷ y′ ∷ m ∷ [])
-Sendable (Q.clear A A′ old y y′ m) = Small A × Small A′ × SmallRecord old × AllDigests (y ∷ y′ ∷ m ∷ [])
-Sendable (Q.ask q A A′ r y m) = Small q × Small A × Small A′ × SmallRecord r × AllDigests (y ∷ m ∷ [])
-Sendable (Q.askNone q) = Small q
+    InEightBytes A × InEightBytes A′ × RecordFits old × ValuesFit v × AllDigests (y ∷ y′ ∷ m ∷ [])
+Sendable (Q.clear A A′ old y y′ m) = InEightBytes A × InEightBytes A′ × RecordFits old × AllDigests (y ∷ y′ ∷ m ∷ [])
+Sendable (Q.ask q A A′ r y m) = InEightBytes q × InEightBytes A × InEightBytes A′ × RecordFits r × AllDigests (y ∷ m ∷ [])
+Sendable (Q.askNone q) = InEightBytes q
 Sendable (Q.unlock k) = AllDigests (k ∷ [])
 
 -- ── the frame of such a request ──

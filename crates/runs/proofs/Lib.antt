@@ -13,6 +13,7 @@
 -- Sides       what no memorandum bears on: the counter's width, the secret's, the strings, a closed module
 -- Carried     so does every one that an accepted request carries, or it was forged
 -- Safe        the invariant, and that an accepted line of each kind keeps it
+-- Sizes       what is listed fits lines, in a run and after a legal change
 -- Runs        any line keeps it or ends the run: `safety`
 -- Readings    memoranda read by the earliest and by the last line that issued them come to one list
 --
@@ -20,7 +21,6 @@
 -- Climbs      ways in a tree: what paths along them fold to, cut at 64 levels
 -- Places      a leaf under its way, two leaves under their fork, and leaves replaced
 -- RingLeaves  no two leaves of a ring have one item or lead to one
--- Sizes       what is listed can be put into a line
 -- Fed         honest lines fed one after another, and the memoranda that they get
 -- Reach       U1 up a way and U2 up a fork
 -- Adopts      an EI placed, turned round and adopted
@@ -43,12 +43,12 @@ pub mod Book
 pub mod Sides
 pub mod Carried
 pub mod Safe
+pub mod Sizes
 pub mod Runs
 pub mod Readings
 pub mod Climbs
 pub mod Places
 pub mod RingLeaves
-pub mod Sizes
 pub mod Fed
 pub mod Reach
 pub mod Adopts

@@ -18,12 +18,13 @@ use Rattle.rings.specs.Lists.{Ascending, ring}
 use Rattle.rings.proofs.Nodes.{_>>=_}
 use Rattle.rings.proofs.Items.{insert-ascending, remove-ascending, put-ascending}
 use Rattle.runs.specs.Run.{Items, World, after}
+use Rattle.runs.specs.Sizes.{ItemsFit}
 use Rattle.runs.specs.Wishes.{Wish, insertItem, removeItem, swapPlaces, setRecord, clearRecord, askAbout, Legal}
 use Rattle.runs.specs.Honest.{honestLines}
 use Rattle.runs.specs.Outcomes.{itemsAfter, registersAfter, treeAfter}
 use Rattle.runs.specs.Liveness.{latestFirst, lastReply, Answered, turnsFor, Granted, LiveOrEnded, Liveness}
 use Rattle.runs.proofs.Parts.{bytes-append}
-use Rattle.runs.proofs.Sizes.{decent}
+use Rattle.runs.proofs.Sizes.{insert-fits, remove-fits, put-fits, none-fits, none-well-formed, next-fits, next-well-formed}
 use Rattle.runs.proofs.Sides.{side}
 use Rattle.runs.proofs.Runs.{run, stands-of}
 use Rattle.runs.proofs.Fed.{Brings}
@@ -45,9 +46,9 @@ module _ (D : List ℕ → Dig) (D32 : (l : List ℕ) → length (D l) ≡ 32) (
         let l = itemsAfter s (w .items) x in
         let s′ = registersAfter s (hashOf D U) x in
         Brings D w (honestLines D s T (w .items) x) s′ l n → hashOf D U ≡ s′ .root → s′ .counter .0 ≡ n → Ascending 0 l
-        → Permuted (leaves U) (ring (recordHash D) l) → Answered D x (w .items) (lastReply D w (turnsFor D w T x))
+        → Permuted (leaves U) (ring (recordHash D) l) → ItemsFit l → Answered D x (w .items) (lastReply D w (turnsFor D w T x))
         → Granted D w T x)
-    grants x n b root counter up holds answered =
+    grants x n b root counter up holds fits answered =
         let U = treeAfter D s T (w .items) x in
         record {
           honest = b .fair;
@@ -58,6 +59,7 @@ module _ (D : List ℕ → Dig) (D32 : (l : List ℕ) → length (D l) ≡ 32) (
             root = root ∙ sym (ap (λ (r : Registers). r .root) (b .registers-are));
             ascending = subst (Ascending 0) (sym (b .items-are)) up;
             holds = subst (λ (l : Items). Permuted (leaves U) (ring (recordHash D) l)) (sym (b .items-are)) holds;
+            fits = subst ItemsFit (sym (b .items-are)) fits;
             counter = ap (λ (r : Registers). r .counter .0) (b .registers-are) ∙ counter ∙ sym (b .changed-are);
           };
           tree = refl;
@@ -68,33 +70,37 @@ module _ (D : List ℕ → Dig) (D32 : (l : List ℕ) → length (D l) ≡ 32) (
     granted : (x : Wish) → Legal (w .items) x → Granted D w T x
     granted (insertItem A) h =
         grants (insertItem A) (w .changed) (insert-brings g A (h .1) (h .0) (h .2)) refl (g .counter)
-        (insert-ascending 0 A emptyRecord (w .items) (h .0) (h .2) (g .ascending)) (with-holds g A (h .0) (h .2)) tt
+        (insert-ascending 0 A emptyRecord (w .items) (h .0) (h .2) (g .ascending)) (with-holds g A (h .0) (h .2))
+        (insert-fits A emptyRecord (w .items)
+        (record { number-fits = h .1; record-fits = none-fits; well-formed = none-well-formed }) (g .fits)) tt
     granted (removeItem A) h =
         grants (removeItem A) (w .changed) (remove-brings g A h) refl (g .counter)
-        (remove-ascending 0 A (w .items) (g .ascending)) (without-holds g A h) tt
+        (remove-ascending 0 A (w .items) (g .ascending)) (without-holds g A h) (remove-fits A (w .items) (g .fits)) tt
     granted (swapPlaces A B) h =
         grants (swapPlaces A B) (w .changed) (swap-brings g A B (h .0) (h .1) (h .2)) refl (g .counter)
-        (g .ascending) (swapped-holds g A B (h .0) (h .1) (h .2)) tt
+        (g .ascending) (swapped-holds g A B (h .0) (h .1) (h .2)) (g .fits) tt
     granted (setRecord A v) h =
         let new = nextRecord s v in
         grants (setRecord A v) (w .changed + 1)
         (set-brings g A v (h .0 .0) (h .0 .1) (h .1) below) refl
         (ap (λ (n : ℕ). n + 1) (g .counter)) (put-ascending 0 A new (w .items) (g .ascending))
-        (rewritten-holds g A (h .0 .0) new (h .0 .1)) tt
+        (rewritten-holds g A (h .0 .0) new (h .0 .1))
+        (put-fits A new (w .items) (next-fits s v below (h .1)) (next-well-formed s v) (g .fits)) tt
     granted (clearRecord A) h =
         grants (clearRecord A) (w .changed + 1) (clear-brings g A (h .0) (h .1) (h .2) below) refl
         (ap (λ (n : ℕ). n + 1) (g .counter)) (put-ascending 0 A clearedRecord (w .items) (g .ascending))
-        (rewritten-holds g A (h .0) clearedRecord (h .1)) tt
+        (rewritten-holds g A (h .0) clearedRecord (h .1))
+        (put-fits A clearedRecord (w .items) none-fits none-well-formed (g .fits)) tt
     granted (askAbout q) h =
         let a = ask-answers g q (h .1) (h .0) in
-        grants (askAbout q) (w .changed) (a .brings) (g .root) (g .counter) (g .ascending) (g .holds) (a .reply)
+        grants (askAbout q) (w .changed) (a .brings) (g .root) (g .counter) (g .ascending) (g .holds) (g .fits) (a .reply)
 
   live-or-ended : LiveOrEnded D
   live-or-ended k ts opened below = do
     let w = after D k ts
     c ← run D D32 k ts
     inr (record {
-      stands = stands-of D D32 w (c .0);
+      stands = stands-of D D32 w (c .0) (side D D32 k ts .well);
       grants = λ t x h.
           granted (latestFirst w) (t .tree)
           (record {
@@ -103,7 +109,7 @@ module _ (D : List ℕ → Dig) (D32 : (l : List ℕ) → length (D l) ≡ 32) (
             ascending = t .ascending;
             holds = t .holds;
             counter = t .counter;
-            decent = decent D D32 w (c .0) (side D D32 k ts .well);
+            fits = t .fits;
           }) below x h;
     })
 

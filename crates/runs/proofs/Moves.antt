@@ -20,11 +20,11 @@ use Rattle.rings.proofs.Counting.{count-nil}
 use Rattle.rings.proofs.Gaps.{gap-tells}
 use Rattle.rings.proofs.Find.{spot}
 use Rattle.runs.specs.Run.{Items, World}
+use Rattle.runs.specs.Sizes.{InEightBytes}
 use Rattle.runs.specs.Wishes.{IsListed}
 use Rattle.runs.specs.Ways.{itemOf, nextOf, hashIn, isOf, gapHolds, has, found, wayTo, rise, Fork, forkOf, halves, leftOne, rightOne, Edit, risenTwo}
 use Rattle.runs.specs.Outcomes.{treeWith, treeSwapped}
 use Rattle.runs.specs.Honest.{sayU2, sayEI, turned, note, twoPlaces, turnRound, takeOver, without, placed, alone, insertLines, swapLines}
-use Rattle.runs.proofs.Widths.{Small}
 use Rattle.runs.proofs.Parts.{IsDigest}
 use Rattle.runs.proofs.Climbs.{record-digest, tree-digest, IsEdit, risen-two-is}
 use Rattle.runs.proofs.Places.{plug-two, rise-plug, rise-two, located, Forks, forked, regrown-one, regrown-two}
@@ -32,7 +32,7 @@ use Rattle.runs.proofs.Fed.{at, note-fits, Brings, brings-also}
 use Rattle.runs.proofs.Reach.{is-open, note-digest, two-places}
 use Rattle.runs.proofs.Adopts.{heads-line, heads-behind, turn-last, adopt-last, alone-is, first-line, feet-are, without-is, place-lines}
 use Rattle.runs.proofs.Asks.{none-hash}
-use Rattle.runs.proofs.Standing.{Ground, leaf-digest, once, spot-by, spotted, of-item}
+use Rattle.runs.proofs.Standing.{Ground, leaf-digest, above-zero, once, spot-by, spotted, of-item}
 
 module _ {D : List ℕ → Dig} {w : World} {T : Tree} (g : Ground D w T) where
   abbrev s : Registers
@@ -112,7 +112,7 @@ module _ {D : List ℕ → Dig} {w : World} {T : Tree} (g : Ground D w T) where
   parent-nought u = refl
 
   -- into the empty list
-  insert-first : (A : ℕ) → Small A → 0 < A → w .items ≡ []
+  insert-first : (A : ℕ) → InEightBytes A → 0 < A → w .items ≡ []
       → Brings D w (insertLines D s A T []) (rooted s (alone D s A .becomes)) (insert A emptyRecord (w .items)) (w .changed)
   insert-first A small positive e =
       let root : nought ≡ s .root = sym (none-hash D T (λ x. g .holds x ∙ rw e (count-nil x))) ∙ g .root in
@@ -120,7 +120,7 @@ module _ {D : List ℕ → Dig} {w : World} {T : Tree} (g : Ground D w T) where
       (first-line (g .ready) A small positive)
 
   -- beside the leaf whose gap holds A
-  insert-beside : (A : ℕ) → Small A → 0 < A → has (gapHolds A) T ≡ true → (i : Item Record) (l : Items)
+  insert-beside : (A : ℕ) → InEightBytes A → 0 < A → has (gapHolds A) T ≡ true → (i : Item Record) (l : Items)
       → Brings D w (insertLines D s A T (i ∷ l)) (rooted s (hashOf D (treeWith D A T (i ∷ l))))
       (insert A emptyRecord (w .items))
       (w .changed)
@@ -132,13 +132,12 @@ module _ {D : List ℕ → Dig} {w : World} {T : Tree} (g : Ground D w T) where
       let B = itemOf x in
       let B′ = nextOf x in
       let ω = hashIn x in
-      let d = g .decent B (t .held) (t .listed) in
       let hω = subst IsDigest (t .hash-is) (record-digest DD (t .held)) in
       let y = without D s f B A B′ ω in
       let hy = without-is (g .ready) f B A B′ ω in
       let root : y .becomes ≡ s .root = ap (rise D p) (parent-nought (digest D (leaf B B′ ω)) ∙ leaf-digest D x) ∙ t .to-root in
-      let h = place-lines (g .ready) f B A B′ ω (d .small) small (t .next-small) hω (d .positive) positive
-      (t .next-positive) (t .passes) in
+      let h = place-lines (g .ready) f B A B′ ω (g .fits B (t .held) (t .listed) .number-fits) small (t .next-fits) hω
+      (above-zero g B (t .held) (t .listed)) positive (t .next-positive) (t .passes) in
       let k = turn-last (g .ready) (placed D s f B A B′ ω) y (removal A ∷ []) hy h in
       let r = adopt-last (g .ready) (placed D s f B A B′ ω ++ (turnRound D s y ∷ [])) (turned y) (insertion A ∷ [])
       (record { old = hy .new; new = hy .old }) root k in
@@ -155,7 +154,7 @@ module _ {D : List ℕ → Dig} {w : World} {T : Tree} (g : Ground D w T) where
       let i = spot (recordHash D) A a r l positive (rw e at (g .ascending)) (rw e at free) in
       spot-by g (gapHolds A) (points (i .a) (i .b) (i .w)) (gap-tells (i .gap)) (rw e (i .on))
 
-  pub insert-brings : (A : ℕ) → Small A → 0 < A → Unlisted A (w .items)
+  pub insert-brings : (A : ℕ) → InEightBytes A → 0 < A → Unlisted A (w .items)
       → Brings D w (insertLines D s A T (w .items)) (rooted s (hashOf D (treeWith D A T (w .items))))
       (insert A emptyRecord (w .items))
       (w .changed)

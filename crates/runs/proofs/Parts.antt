@@ -16,8 +16,8 @@ use Rattle.paper.specs.declared.Values.{Values}
 use Rattle.paper.specs.Strings.{Dig}
 use Rattle.paper.specs.Requests.{Carried, aNumber, aDigest, aRecord, theValues, aPath, sidesIn, digestsIn, siblingsIn, recordIn, valuesIn, takes, takesAll, part, sound, soundAll}
 use Rattle.runs.specs.Frames.{together, recordBytes, valuesBytes, pathBytes}
-use Rattle.runs.specs.Wishes.{ValuesFit}
-use Rattle.runs.proofs.Widths.{Is32, Small, SmallRecord}
+use Rattle.runs.specs.Sizes.{InEightBytes, ValuesFit, RecordFits}
+use Rattle.runs.proofs.Widths.{Is32}
 
 -- ── bytes ──
 
@@ -157,10 +157,10 @@ together-bytes [] h = tt
 together-bytes (d ∷ l) h = bytes-append d (together l) (h .0 .bytes) (together-bytes l (h .1))
 
 -- sides with no bit at n or above are below 2 ^ 64
-pub sides-small : (n sides : ℕ) → n ≤ 64 → sides < 2 ^ n → Small sides
+pub sides-small : (n sides : ℕ) → n ≤ 64 → sides < 2 ^ n → InEightBytes sides
 sides-small n sides h k = lt-of-lt-of-le k (pow-le-pow-right (omega arith) h)
 
-pub sides-back : (sides n : ℕ) (l rest : List ℕ) → Small sides → sidesIn ((n ∷ (be64 sides ++ l)) ++ rest) ≡ sides
+pub sides-back : (sides n : ℕ) (l rest : List ℕ) → InEightBytes sides → sidesIn ((n ∷ (be64 sides ++ l)) ++ rest) ≡ sides
 sides-back sides n l rest h =
     rw (append-assoc (be64 sides) l rest, take-at (be64 sides) (l ++ rest) 8 (be64-length sides)) (number-be64 sides h)
 
@@ -194,7 +194,7 @@ values-back v h =
     let c : numberOf (take 8 (drop 16 (valuesBytes v))) ≡ v .rigging .0 = number-be64 (v .rigging .0) (h .2) in
     λ i. record { mass = record { 0 = a i }; offset = record { 0 = b i }; rigging = record { 0 = c i } }
 
-pub record-back : (r : Record) → SmallRecord r → recordIn (recordBytes r) ≡ r
+pub record-back : (r : Record) → RecordFits r → recordIn (recordBytes r) ≡ r
 unfolding be64
 record-back r h =
     let a : numberOf (take 8 (recordBytes r)) ≡ r .revision .0 = number-be64 (r .revision .0) (h .0) in

@@ -33,7 +33,7 @@ use Rattle.runs.proofs.RingLeaves.{one-of-item, one-to-item}
 use Rattle.runs.proofs.Fed.{Brings, brings-also}
 use Rattle.runs.proofs.Adopts.{turn-last, adopt-last, alone-is, first-line, without-is, place-lines}
 use Rattle.runs.proofs.Asks.{none-hash}
-use Rattle.runs.proofs.Standing.{Ground, leaf-digest, once, spot-by, spotted}
+use Rattle.runs.proofs.Standing.{Ground, leaf-digest, above-zero, once, spot-by, spotted}
 use Rattle.runs.proofs.Moves.{feet}
 
 -- ── a tree of one leaf ──
@@ -93,14 +93,13 @@ module _ {D : List ℕ → Dig} {w : World} {T : Tree} (g : Ground D w T) where
   remove-only : (A a : ℕ) (r : Record) → Listed A emptyRecord (w .items) → w .items ≡ item a r ∷ []
       → Brings D w (removeLines D s A T (item a r ∷ [])) (rooted s nought) (remove A (w .items)) (w .changed)
   remove-only A a r m e =
-      let d = g .decent A emptyRecord m in
       let y = points A A nought in
       let only : (x : Leaf) → count x (leaves T) ≡ one x y =
       λ x. g .holds x ∙ ap (λ (l : Items). count x (ring (recordHash D) l)) e ∙ single x in
       let root : alone D s A .becomes ≡ s .root = sym (one-hash D T y (λ t. tree-digest DD t .wide) only) ∙ g .root in
       let ha = alone-is (g .ready) A in
       let k = turn-last (g .ready) (Q.first A ∷ []) (alone D s A) (insertion A ∷ []) ha
-      (first-line (g .ready) A (d .small) (d .positive)) in
+      (first-line (g .ready) A (g .fits A emptyRecord m .number-fits) (above-zero g A emptyRecord m)) in
       adopt-last (g .ready) (Q.first A ∷ turnRound D s (alone D s A) ∷ []) (turned (alone D s A)) (removal A ∷ [])
       (record { old = ha .new; new = ha .old }) root k
     where
@@ -174,8 +173,6 @@ module _ {D : List ℕ → Dig} {w : World} {T : Tree} (g : Ground D w T) where
       let B = itemOf x in
       let B′ = nextOf z in
       let ω = hashIn x in
-      let dB = g .decent B (tx .held) (tx .listed) in
-      let dA = g .decent A emptyRecord m in
       let hω = subst IsDigest (tx .hash-is) (record-digest DD (tx .held)) in
       let f = forkOf (leadsTo A) (isOf A) T in
       let y = without D s f B A B′ ω in
@@ -191,8 +188,9 @@ module _ {D : List ℕ → Dig} {w : World} {T : Tree} (g : Ground D w T) where
       feet g (λ u. u .becomes) f (relinked D s B A B′ ω) (gone D s A B′) X empty refl refl
       ∙ ap (hashOf D)
       (sym (regrown-two x X z empty (other-leaf A k) f T (fork-of A k) (once g x) (once g z))) in
-      let h = place-lines (g .ready) f B A B′ ω (dB .small) (dA .small) (tz .next-small) hω (dB .positive) (dA .positive)
-      (tz .next-positive) (k .gap) in
+      let h = place-lines (g .ready) f B A B′ ω (g .fits B (tx .held) (tx .listed) .number-fits)
+      (g .fits A emptyRecord m .number-fits) (tz .next-fits) hω (above-zero g B (tx .held) (tx .listed))
+      (above-zero g A emptyRecord m) (tz .next-positive) (k .gap) in
       brings-also D refl (ap (rooted s) shrunk) refl
       (adopt-last (g .ready) (placed D s f B A B′ ω) y (removal A ∷ []) (without-is (g .ready) f B A B′ ω) root h)
 

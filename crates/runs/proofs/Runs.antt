@@ -20,10 +20,11 @@ use Rattle.runs.specs.Run.{Turn, Reading, ofRuns, World, start, toldAt, 
 use Rattle.runs.specs.Endings.{Ending, collision, zero, forged, earlier}
 use Rattle.runs.specs.Safety.{Stands, TrueAnswer, LegalEffect, AllFair, SafeOrEnded, Safety}
 use Rattle.runs.proofs.Lines.{asked, kindIn, Sorted, refusal, acceptance, sorted}
-use Rattle.runs.proofs.Formed.{well-at}
+use Rattle.runs.proofs.Formed.{Well, well-at}
 use Rattle.runs.proofs.Carried.{Forgery, Given}
 use Rattle.runs.proofs.Safe.{Core, kept-core, accepted}
 use Rattle.runs.proofs.Sides.{side}
+use Rattle.runs.proofs.Sizes.{listed-fits}
 
 module _ (D : List ℕ → Dig) (D32 : (l : List ℕ) → length (D l) ≡ 32) where
   -- ── what a line comes to, by its answer ──
@@ -95,20 +96,22 @@ module _ (D : List ℕ → Dig) (D32 : (l : List ℕ) → length (D l) ≡ 32) w
       ends (inl f) = shown k (t ∷ ts) f
       ends (inr x) = forged t (record { accepted = x .0; memorandum = x .1 .0; carries = x .1 .1; unissued = x .1 .2 })
 
-  pub stands-of : (w : World) → Core D D32 w → Stands D w
-  stands-of w c =
+  pub stands-of : (w : World) → Core D D32 w → Well (w .formed) → Stands D w
+  stands-of w c well =
       record {
         tree = c .tree;
         root = c .root;
         ascending = c .stands .ascending;
         holds = holds-ring D D32 (w .formed) (c .stands);
+        fits = listed-fits D D32 w c well;
         counter = c .counter;
       }
 
 safe-or-ended : (D : List ℕ → Dig) → ((l : List ℕ) → length (D l) ≡ 32) → SafeOrEnded D
 safe-or-ended D D32 k ts = do
   x ← run D D32 k ts
-  inr (record { stands = stands-of D D32 (after D k ts) (x .0); fair = x .1; closed = side D D32 k ts .closed })
+  let s = side D D32 k ts
+  inr (record { stands = stands-of D D32 (after D k ts) (x .0) (s .well); fair = x .1; closed = s .closed })
 
 pub safety : Safety
 safety = record { at-sha256 = safe-or-ended sha256 sha256-length; at-any = safe-or-ended }

@@ -21,15 +21,15 @@ use Rattle.runs.specs.Run.{World}
 use Rattle.runs.specs.Ways.{nextOf, isOf, found, wayTo, rise, Edit, risen}
 use Rattle.runs.specs.Outcomes.{treeRewritten}
 use Rattle.runs.specs.Honest.{recordOf, sayU1, note, onePlace, rewritten, setLines, clearLines}
-use Rattle.runs.specs.Wishes.{ValuesFit}
+use Rattle.runs.specs.Sizes.{ValuesFit, ItemFits}
 use Rattle.runs.proofs.Parts.{IsDigest, AllDigests}
 use Rattle.runs.proofs.Climbs.{rise-digest}
 use Rattle.runs.proofs.Places.{rise-plug, located, regrown-one}
-use Rattle.runs.proofs.Sizes.{record-is, Decent}
+use Rattle.runs.proofs.Sizes.{record-is}
 use Rattle.runs.proofs.Fed.{at, Got, Brings, brings-also, leads-on, leads-one, brings}
 use Rattle.runs.proofs.Reach.{is-open, note-digest, fits-own, one-place}
 use Rattle.runs.proofs.Adopts.{not-zero, at-root}
-use Rattle.runs.proofs.Standing.{Ground, Spotted, once, spotted, of-item, item-digest}
+use Rattle.runs.proofs.Standing.{Ground, Spotted, above-zero, once, spotted, of-item, item-digest}
 
 module _ {D : List ℕ → Dig} {w : World} {T : Tree} (g : Ground D w T) where
   abbrev s : Registers
@@ -48,7 +48,7 @@ module _ {D : List ℕ → Dig} {w : World} {T : Tree} (g : Ground D w T) where
   -- what holds of item A's leaf and its U1, whatever the new record
   record Rewrites (A : ℕ) (r new : Record) : Type 0 where
     spot : Spotted g (isOf A)
-    item : Decent A (recordOf A (w .items))
+    item : ItemFits A (recordOf A (w .items))
     record-same : recordOf A (w .items) ≡ r
     numbered : eqb A 0 ≡ false
     next-numbered : eqb (nextOf (found (isOf A) T)) 0 ≡ false
@@ -68,12 +68,11 @@ module _ {D : List ℕ → Dig} {w : World} {T : Tree} (g : Ground D w T) where
       let p = wayTo (isOf A) T in
       let e = atLeaf A new in
       let k = record-is 0 A r (w .items) (g .ascending) m in
-      let d : Decent A (recordOf A (w .items)) = rw k (g .decent A r m) in
       record {
         spot = t;
-        item = d;
+        item = rw k (g .fits A r m);
         record-same = k;
-        numbered = not-zero A (d .positive);
+        numbered = not-zero A (above-zero g A r m);
         next-numbered = not-zero _ (t .next-positive);
         at-root = at-root _ (s .root)
             (ap (rise D p) (item-digest g A r m (isOf A) t (eqb-true A _ (t .passes))) ∙ t .to-root);
@@ -98,8 +97,8 @@ module _ {D : List ℕ → Dig} {w : World} {T : Tree} (g : Ground D w T) where
       brings-also D refl (ap (raised s) (u .new-root)) refl
       (brings D (leads-on D (h .leads)
       (leads-one D (at w (h .formed) (h .book)) (Q.setTo A _ _ v _ _ _)
-      (u .item .small, u .spot .next-small, u .item .small-record, fit, u .digests)
-      (is-open (g .ready) and u .numbered and u .next-numbered and u .item .sound and not-at-top (s .counter .0) below
+      (u .item .number-fits, u .spot .next-fits, u .item .record-fits, fit, u .digests)
+      (is-open (g .ready) and u .numbered and u .next-numbered and u .item .well-formed and not-at-top (s .counter .0) below
       and u .fits and u .at-root and tt)
       (h .got, tt))))
 
@@ -112,7 +111,7 @@ module _ {D : List ℕ → Dig} {w : World} {T : Tree} (g : Ground D w T) where
       brings-also D refl (ap (raised s) (u .new-root)) refl
       (brings D (leads-on D (h .leads)
       (leads-one D (at w (h .formed) (h .book)) (Q.clear A _ _ _ _ _)
-      (u .item .small, u .spot .next-small, u .item .small-record, u .digests)
-      (is-open (g .ready) and u .numbered and u .next-numbered and u .item .sound
+      (u .item .number-fits, u .spot .next-fits, u .item .record-fits, u .digests)
+      (is-open (g .ready) and u .numbered and u .next-numbered and u .item .well-formed
       and (ap blank (u .record-same) ∙ recorded) and not-at-top (s .counter .0) below and u .fits and u .at-root and tt)
       (h .got, tt))))

@@ -18,10 +18,11 @@ use Rattle.paper.specs.Answers.{rooted, raised, answer}
 use Rattle.paper.specs.Module.{Told, told}
 use Rattle.paper.proofs.Early.{late}
 use Rattle.runs.specs.Run.{Turn, Reading, ofRuns, World, toldAt, landed, next, after}
+use Rattle.runs.specs.Sizes.{InEightBytes}
 use Rattle.runs.specs.Safety.{Untouched}
 use Rattle.runs.proofs.Accepted.{opposite-false, NoneFails}
 use Rattle.runs.proofs.Lines.{asked, kindIn, Sorted, refusal, acceptance, sorted}
-use Rattle.runs.proofs.Widths.{Is32, Small, Wide}
+use Rattle.runs.proofs.Widths.{Is32, Wide}
 use Rattle.runs.proofs.Formed.{Well, well-append, below-top, closed-forms, well-formed}
 use Rattle.runs.proofs.Book.{entered-none}
 
@@ -34,7 +35,7 @@ module _ (D : List ℕ → Dig) (D32 : (l : List ℕ) → length (D l) ≡ 32) w
 
   -- what an accepted line leaves in the registers, whatever its root
   record Left (s a : Registers) : Type 0 where
-    small : Small (s .counter .0) → Small (a .counter .0)
+    small : InEightBytes (s .counter .0) → InEightBytes (a .counter .0)
     keyed : Keyed s → Keyed a
     opened : a .opened ≡ true
 
@@ -66,7 +67,7 @@ module _ (D : List ℕ → Dig) (D32 : (l : List ℕ) → length (D l) ≡ 32) w
   -- ── the side of the invariant that no memorandum bears on ──
 
   pub record Side (secret : Dig) (w : World) : Type 0 where
-    pub small : Small (w .registers .counter .0)
+    pub small : InEightBytes (w .registers .counter .0)
     pub keyed : Keyed (w .registers)
     pub well : Well (w .formed)
     pub closed : w .registers .opened ≡ false → Untouched D secret w
@@ -108,7 +109,7 @@ module _ (D : List ℕ → Dig) (D32 : (l : List ℕ) → length (D l) ≡ 32) w
   -- ── any line ──
 
   -- the strings of a line that is read and comes to the verdict u
-  module _ (s : Registers) (small : Small (s .counter .0)) (keyed : Keyed s) (kind : ℕ) (q : Request) (h : Wide q) where
+  module _ (s : Registers) (small : InEightBytes (s .counter .0)) (keyed : Keyed s) (kind : ℕ) (q : Request) (h : Wide q) where
     abbrev NoneIfShut : Told → Type 0
     NoneIfShut a = s .opened ≡ false → a .formed ≡ []
 

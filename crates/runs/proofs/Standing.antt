@@ -11,15 +11,16 @@ use Rattle.paper.specs.Strings.{Dig, leaf, digest, recordHash}
 use Rattle.paper.specs.Refusals.{leafOf}
 use Rattle.rings.specs.Trees.{Leaf, points, Tree, tip, leaves, hashOf, count, Permuted}
 use Rattle.rings.specs.Lists.{Ascending, Listed, ring}
+use Rattle.rings.proofs.Items.{listed-above}
 use Rattle.rings.proofs.Find.{item-leaf}
 use Rattle.runs.specs.Run.{World}
+use Rattle.runs.specs.Sizes.{InEightBytes, ItemsFit}
 use Rattle.runs.specs.Ways.{itemOf, nextOf, hashIn, isOf, has, found, wayTo, rise}
 use Rattle.runs.specs.Honest.{recordOf}
-use Rattle.runs.proofs.Widths.{Small}
 use Rattle.runs.proofs.Places.{rise-plug, has-it, located}
 use Rattle.runs.proofs.RingLeaves.{ring-once, leaf-held, leaf-next}
 use Rattle.runs.proofs.Reach.{Ready}
-use Rattle.runs.proofs.Sizes.{record-is, AllDecent}
+use Rattle.runs.proofs.Sizes.{record-is}
 
 module _ (D : List ℕ → Dig) where
   -- a leaf of the ring of a world's list
@@ -33,7 +34,7 @@ module _ (D : List ℕ → Dig) where
     pub ascending : Ascending 0 (w .items)
     pub holds : Permuted (leaves T) (ring (recordHash D) (w .items))
     pub counter : w .registers .counter .0 ≡ w .changed
-    pub decent : AllDecent (w .items)
+    pub fits : ItemsFit (w .items)
 
   pub leaf-digest : (x : Leaf) → digest D (leaf (itemOf x) (nextOf x) (hashIn x)) ≡ hashOf D (tip x)
   leaf-digest (points A B v) = refl
@@ -51,8 +52,12 @@ module _ {D : List ℕ → Dig} {w : World} {T : Tree} (g : Ground D w T) where
     pub listed : Listed (itemOf (found p T)) held (w .items)
     pub hash-is : recordHash D held ≡ hashIn (found p T)
     pub next-positive : 0 < nextOf (found p T)
-    pub next-small : Small (nextOf (found p T))
+    pub next-fits : InEightBytes (nextOf (found p T))
     pub to-root : rise D (wayTo p T) (hashOf D (tip (found p T))) ≡ s .root
+
+  -- a listed number is above 0
+  pub above-zero : (A : ℕ) (r : Record) → Listed A r (w .items) → 0 < A
+  above-zero A r m = listed-above 0 A r (w .items) (g .ascending) m
 
   -- every leaf of the tree occurs once
   pub once : (v : Leaf) → count v (leaves T) ≤ 1
@@ -69,15 +74,14 @@ module _ {D : List ℕ → Dig} {w : World} {T : Tree} (g : Ground D w T) where
       let m : InRing D w x = omega (arith, g .holds x, at .occurs) in
       let i = leaf-held (recordHash D) x (w .items) m in
       let n = leaf-next (recordHash D) x (w .items) m in
-      let k = g .decent (nextOf x) (n .0) (n .1) in
       record {
         passes = at .passes;
         in-ring = m;
         held = i .0;
         listed = i .1;
         hash-is = i .2;
-        next-positive = k .positive;
-        next-small = k .small;
+        next-positive = above-zero (nextOf x) (n .0) (n .1);
+        next-fits = g .fits (nextOf x) (n .0) (n .1) .number-fits;
         to-root = rise-plug D (wayTo p T) (tip x) ∙ ap (hashOf D) (at .under-way) ∙ g .root;
       }
 

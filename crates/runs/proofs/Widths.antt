@@ -10,23 +10,16 @@ use lib.ListN.{length, getD, take, drop, length-drop}
 use lib.Seq.{length-take-le, getD-take}
 use Rattle.seqs.specs.Choose.{both-true, _and_}
 use Rattle.seqs.specs.Bytes.{Bytes, numberOf, number8, numberAt, number-at}
-use Rattle.paper.specs.declared.Record.{Record}
 use Rattle.paper.specs.Strings.{Dig}
 use Rattle.rings.proofs.Paths.{AllWide}
 use Rattle.paper.specs.Requests as Q
 use Rattle.paper.specs.Requests.{Request, Carried, aNumber, aDigest, aRecord, theValues, aPath, countIn, digestsIn, siblingsIn, recordIn, valuesIn, Kind, kinds, kindOf, known, rowOf, takes, takesAll, part, fits, requestOf}
-use Rattle.runs.specs.Wishes.{ValuesFit}
+use Rattle.runs.specs.Sizes.{InEightBytes, ValuesFit, RecordFits}
 
 -- ── widths ──
 
 abbrev pub Is32 : Dig → Type 0
 Is32 d = length d ≡ 32
-
-abbrev pub Small : ℕ → Type 0
-Small n = n < 2 ^ 64
-
-abbrev pub SmallRecord : Record → Type 0
-SmallRecord r = Small (r .revision .0) × Small (r .mass .0) × Small (r .offset .0) × Small (r .rigging .0)
 
 abbrev pub Wide : Request → Type 0
 Wide (Q.path x x′ sides l) = Is32 x × Is32 x′ × AllWide l
@@ -37,15 +30,15 @@ Wide (Q.pair x1 y x1′ y′ m1 x2 z x2′ z′ m2) =
 Wide (Q.raise x1 x2 y x1′ x2′ y′ m1 z z′ m2) =
     Is32 x1 × Is32 x2 × Is32 y × Is32 x1′ × Is32 x2′ × Is32 y′ × Is32 z × Is32 z′
 Wide (Q.swap x1 x2 y y′ m) = Is32 x1 × Is32 x2 × Is32 y × Is32 y′
-Wide (Q.first A) = Small A
-Wide (Q.place A A′ B′ ω y y′ m) = Small A × Small A′ × Small B′ × Is32 ω × Is32 y × Is32 y′
+Wide (Q.first A) = InEightBytes A
+Wide (Q.place A A′ B′ ω y y′ m) = InEightBytes A × InEightBytes A′ × InEightBytes B′ × Is32 ω × Is32 y × Is32 y′
 Wide (Q.turn x y m) = Is32 x × Is32 y
 Wide (Q.chain x y m1 z m2) = Is32 x × Is32 y × Is32 z
 Wide (Q.adopt y y′ m) = Is32 y × Is32 y′
-Wide (Q.setTo A A′ old v y y′ m) = Small A × Small A′ × SmallRecord old × ValuesFit v × Is32 y × Is32 y′
-Wide (Q.clear A A′ old y y′ m) = Small A × Small A′ × SmallRecord old × Is32 y × Is32 y′
-Wide (Q.ask q A A′ r y m) = Small q × Small A × Small A′ × SmallRecord r × Is32 y
-Wide (Q.askNone q) = Small q
+Wide (Q.setTo A A′ old v y y′ m) = InEightBytes A × InEightBytes A′ × RecordFits old × ValuesFit v × Is32 y × Is32 y′
+Wide (Q.clear A A′ old y y′ m) = InEightBytes A × InEightBytes A′ × RecordFits old × Is32 y × Is32 y′
+Wide (Q.ask q A A′ r y m) = InEightBytes q × InEightBytes A × InEightBytes A′ × RecordFits r × Is32 y
+Wide (Q.askNone q) = InEightBytes q
 Wide (Q.unlock k) = Is32 k
 
 -- ── numbers of bytes ──
@@ -69,10 +62,10 @@ eight : (a b c d e f g h : ℕ) → a < 256 → b < 256 → c < 256 → d < 256 
     → number8 a b c d e f g h < 2 ^ 64
 eight a b c d e f g h ha hb hc hd he hf hg hh = omega arith
 
-number-small : (l : List ℕ) → Bytes l → 8 ≤ length l → Small (numberOf (take 8 l))
+number-small : (l : List ℕ) → Bytes l → 8 ≤ length l → InEightBytes (numberOf (take 8 l))
 unfolding numberAt
 number-small l h n =
-    subst Small (sym (number-at l 0 n))
+    subst InEightBytes (sym (number-at l 0 n))
     (let at : (i : ℕ) → getD l i 0 < 256 = λ i. byte-at l i h in
     eight _ _ _ _ _ _ _ _ (at 0) (at 1) (at 2) (at 3) (at 4) (at 5) (at 6) (at 7))
 
@@ -85,14 +78,14 @@ digests-wide (suc n) l h =
 
 -- a carried thing's bytes: a small number, a digest, a record of small numbers, siblings of 32 bytes
 abbrev Sized : Carried → List ℕ → Type 0
-Sized aNumber b = Small (numberOf b)
+Sized aNumber b = InEightBytes (numberOf b)
 Sized aDigest b = Is32 b
-Sized aRecord b = SmallRecord (recordIn b)
+Sized aRecord b = RecordFits (recordIn b)
 Sized theValues b = ValuesFit (valuesIn b)
 Sized aPath b = AllWide (siblingsIn b)
 
 -- any number within some of the bytes
-number-within : (w : ℕ) (l : List ℕ) → Bytes l → w ≤ length l → (i : ℕ) → i + 8 ≤ w → Small (numberOf (take 8 (drop i (take w l))))
+number-within : (w : ℕ) (l : List ℕ) → Bytes l → w ≤ length l → (i : ℕ) → i + 8 ≤ w → InEightBytes (numberOf (take 8 (drop i (take w l))))
 number-within w l h n i j =
     number-small (drop i (take w l)) (bytes-drop i (take w l) (bytes-take w l h))
     (omega (arith, length-drop i (take w l), length-take-le w l n))
@@ -101,10 +94,10 @@ sized : (c : Carried) (l : List ℕ) → Bytes l → takes c l ≤ length l → 
 sized aNumber l h n = number-small l h n
 sized aDigest l h n = length-take-le 32 l n
 sized aRecord l h n =
-    let at : (i : ℕ) → i + 8 ≤ 32 → Small (numberOf (take 8 (drop i (take 32 l)))) = number-within 32 l h n in
+    let at : (i : ℕ) → i + 8 ≤ 32 → InEightBytes (numberOf (take 8 (drop i (take 32 l)))) = number-within 32 l h n in
     (at 0 (omega arith), at 8 (omega arith), at 16 (omega arith), at 24 (omega arith))
 sized theValues l h n =
-    let at : (i : ℕ) → i + 8 ≤ 24 → Small (numberOf (take 8 (drop i (take 24 l)))) = number-within 24 l h n in
+    let at : (i : ℕ) → i + 8 ≤ 24 → InEightBytes (numberOf (take 8 (drop i (take 24 l)))) = number-within 24 l h n in
     (at 0 (omega arith), at 8 (omega arith), at 16 (omega arith))
 sized aPath l h n =
     let w : ℕ = 9 + 32 * countIn l in

@@ -1,4 +1,5 @@
 pub mod Run
+pub mod Sizes
 pub mod Endings
 pub mod Safety
 pub mod Frames

@@ -18,16 +18,18 @@ use Rattle.rings.specs.Trees.{Tree, points, leaves, hashOf, Permuted}
 use Rattle.rings.specs.Lists.{Ascending, Listed, Unlisted, ring}
 use Rattle.rings.specs.Changes.{LegalSteps}
 use Rattle.runs.specs.Run.{Turn, Items, standsFor, World, toldAt, after}
+use Rattle.runs.specs.Sizes.{ItemsFit}
 use Rattle.runs.specs.Endings.{Ending}
 
 module _ (D : List ℕ → Dig) where
   -- "the root is that of a tree whose leaves form one ascending ring of distinct item numbers and hold exactly the list
-  -- got by replaying"; "the counter is the number of accepted record changes"
+  -- got by replaying"; "the counter is the number of accepted record changes"; and what is listed fits lines
   pub record Stands (w : World) : Type 0 where
     pub tree : Tree
     pub root : hashOf D tree ≡ w .registers .root
     pub ascending : Ascending 0 (w .items)
     pub holds : Permuted (leaves tree) (ring (recordHash D) (w .items))
+    pub fits : ItemsFit (w .items)
     pub counter : w .registers .counter .0 ≡ w .changed
 
   -- A and A' are neighbours: the ring has a leaf from A to A'

@@ -3,12 +3,13 @@
 use mathlib.Core.Path.{_≡_}
 use mathlib.Core.Bool.{false}
 use mathlib.Core.Logic.{_≢_}
-use Prim.Native.Nat.{ℕ, _<_, _^_}
+use Prim.Native.Nat.{ℕ, _<_}
 use Rattle.paper.specs.declared.Record.{Record}
 use Rattle.paper.specs.declared.Values.{Values}
 use Rattle.paper.specs.Strings.{emptyRecord, blank}
 use Rattle.rings.specs.Lists.{Listed, Unlisted}
 use Rattle.runs.specs.Run.{Items}
+use Rattle.runs.specs.Sizes.{InEightBytes, ValuesFit}
 
 pub data Wish : Type 0 where
   insertItem : (A : ℕ) → Wish
@@ -17,13 +18,6 @@ pub data Wish : Type 0 where
   setRecord : (A : ℕ) (v : Values) → Wish
   clearRecord : (A : ℕ) → Wish
   askAbout : (q : ℕ) → Wish
-
--- "Numbers are 8 bytes"
-abbrev pub InEightBytes : ℕ → Type 0
-InEightBytes n = n < 2 ^ 64
-
-abbrev pub ValuesFit : Values → Type 0
-ValuesFit v = InEightBytes (v .mass .0) × InEightBytes (v .offset .0) × InEightBytes (v .rigging .0)
 
 abbrev pub IsListed : (A : ℕ) → Items → Type 0
 IsListed A l = (r : Record) × Listed A r l
