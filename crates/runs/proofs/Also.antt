@@ -18,13 +18,14 @@ use Rattle.rings.proofs.InPaper.{same-list}
 use Rattle.runs.specs.Run.{Turn, Issue, standsFor, isIssued, issuedBy, toldAt, after}
 use Rattle.runs.specs.Endings.{Ending, collision, zero, forged, earlier}
 use Rattle.runs.specs.Safety.{SafeOrEnded}
-use Rattle.runs.specs.Liveness.{turnsFor, LiveOrEnded}
+use Rattle.runs.specs.Liveness.{turnsFor, FunctionsGrant}
 use Rattle.runs.specs.Also.{onwards, Shown, RootSettlesList, AnyForged, NoOtherWayOut, HonestReplayed, EarliestStays, NotEndedAtFirst, AlsoFor, Also}
 use Rattle.runs.proofs.Formed.{well-at, well-append}
 use Rattle.runs.proofs.Sides.{side}
 use Rattle.runs.proofs.Runs.{run, stands-of, safety}
+use Rattle.runs.proofs.Readings.{readings-agree}
+use Rattle.runs.proofs.Spaces.{own-turns}
 use Rattle.runs.proofs.Live.{liveness}
-use Rattle.runs.proofs.Readings.{ended, readings-agree}
 
 module _ (D : List ℕ → Dig) (D32 : (l : List ℕ) → length (D l) ≡ 32) where
   -- ── the root settles the list ──
@@ -105,14 +106,14 @@ also-for D D32 =
 
 -- ── granted wishes, replayed ──
 
-honest-replayed : (D : List ℕ → Dig) → ((l : List ℕ) → length (D l) ≡ 32) → LiveOrEnded D → HonestReplayed D
-honest-replayed D D32 live k ts opened below t x legal = do
+honest-replayed : (D : List ℕ → Dig) → ((l : List ℕ) → length (D l) ≡ 32) → FunctionsGrant D → HonestReplayed D
+honest-replayed D D32 grant k ts opened below t x legal = do
   let us = turnsFor D (after D k ts) (t .tree) x
-  l ← instead (ended D D32 k us ts) (live k ts opened below)
+  let g = grant (after D k ts) t opened below x legal us (own-turns D (after D k ts) (t .tree) x) .grants
   e ← readings-agree D D32 k ts us
   c ← run D D32 k (onwards us ts)
   inr (record {
-    items = sym e ∙ l .grants t x legal .items;
+    items = sym e ∙ g .items;
     stands = stands-of D D32 (after D k (onwards us ts)) (c .0) (side D D32 k (onwards us ts) .well);
   })
 
@@ -121,6 +122,6 @@ also =
     record {
       at-sha256 = also-for sha256 sha256-length;
       at-any = also-for;
-      honest-at-sha256 = honest-replayed sha256 sha256-length (liveness .at-sha256);
-      honest-at-any = λ D D32 DB. honest-replayed D D32 (liveness .at-any D D32 DB);
+      honest-at-sha256 = honest-replayed sha256 sha256-length (liveness .at-sha256 .by-functions);
+      honest-at-any = λ D D32 DB. honest-replayed D D32 (liveness .at-any D D32 DB .by-functions);
     }

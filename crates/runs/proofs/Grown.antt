@@ -18,13 +18,13 @@ use Rattle.rings.proofs.RingChanges.{insert-ring, remove-ring, put-ring}
 use Rattle.runs.specs.Run.{Items, World}
 use Rattle.runs.specs.Wishes.{IsListed}
 use Rattle.runs.specs.Ways.{itemOf, nextOf, hashIn, isOf, leadsTo, gapHolds, has, found, wayTo, Fork, forkOf, leftOne, rightOne, regrown, replacing, replacingTwo}
-use Rattle.runs.specs.Outcomes.{treeWith, treeWithout, treeSwapped, treeRewritten}
+use Rattle.runs.specs.TreesAfter.{treeWith, treeWithout, treeSwapped, treeRewritten}
 use Rattle.runs.proofs.Places.{located, Forks, around, count-plug, count-two, regrown-one, regrown-two}
 use Rattle.runs.proofs.Standing.{InRing, Ground, once, spotted, of-item}
 use Rattle.runs.proofs.Moves.{two-items, gap-found}
 use Rattle.runs.proofs.Removes.{no-record-hash, Linked, linked-in, other-leaf, fork-of}
 
-leaf-is : (x : Leaf) (A B : ℕ) (v : Dig) → A ≡ itemOf x → B ≡ nextOf x → v ≡ hashIn x → x ≡ points A B v
+pub leaf-is : (x : Leaf) (A B : ℕ) (v : Dig) → A ≡ itemOf x → B ≡ nextOf x → v ≡ hashIn x → x ≡ points A B v
 leaf-is (points A B v) A′ B′ v′ e f h = λ i. points (sym e i) (sym f i) (sym h i)
 
 single : (v x : Leaf) → count v (x ∷ []) ≡ one v x

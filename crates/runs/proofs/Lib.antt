@@ -21,6 +21,7 @@
 -- Climbs      ways in a tree: what paths along them fold to, cut at 64 levels
 -- Places      a leaf under its way, two leaves under their fork, and leaves replaced
 -- RingLeaves  no two leaves of a ring have one item or lead to one
+-- Spaces      reply space above 195 bytes makes no difference
 -- Fed         honest lines fed one after another, and the memoranda that they get
 -- Reach       U1 up a way and U2 up a fork
 -- Adopts      an EI placed, turned round and adopted
@@ -30,6 +31,7 @@
 -- Moves       swap and insert
 -- Removes     remove
 -- Grown       the tree after each change stands for the list after it
+-- Exchanged   a swap exchanges two leaves and moves no other
 -- Live        hence every legal wish is granted: `liveness`
 --
 -- Also        the root settles the list, and what else holds of runs: `also`
@@ -49,6 +51,7 @@ pub mod Readings
 pub mod Climbs
 pub mod Places
 pub mod RingLeaves
+pub mod Spaces
 pub mod Fed
 pub mod Reach
 pub mod Adopts
@@ -58,5 +61,6 @@ pub mod Asks
 pub mod Moves
 pub mod Removes
 pub mod Grown
+pub mod Exchanged
 pub mod Live
 pub mod Also

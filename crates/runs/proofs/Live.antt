@@ -1,4 +1,5 @@
--- Until a run has ended, once open and below the top, every legal wish is granted by its honest lines (demand 3, second half).
+-- At a world that stands, open and below the top, every legal wish is granted by its honest lines; so after any run until it has
+-- ended: `liveness` (demand 3, second half).
 use mathlib.Core.Path.{_≡_, refl, sym, ap, subst, _∙_}
 use mathlib.Core.List.{List, _++_}
 use mathlib.Core.Logic.{inr}
@@ -17,16 +18,17 @@ use Rattle.rings.specs.Trees.{Tree, leaves, hashOf, Permuted}
 use Rattle.rings.specs.Lists.{Ascending, ring}
 use Rattle.rings.proofs.Nodes.{_>>=_}
 use Rattle.rings.proofs.Items.{insert-ascending, remove-ascending, put-ascending}
-use Rattle.runs.specs.Run.{Items, World, after}
+use Rattle.runs.specs.Run.{Turn, Items, World, after}
 use Rattle.runs.specs.Sizes.{ItemsFit}
 use Rattle.runs.specs.Wishes.{Wish, insertItem, removeItem, swapPlaces, setRecord, clearRecord, askAbout, Legal}
+use Rattle.runs.specs.Outcomes.{itemsAfter, registersAfter, Moved}
 use Rattle.runs.specs.Honest.{honestLines}
-use Rattle.runs.specs.Outcomes.{itemsAfter, registersAfter, treeAfter}
-use Rattle.runs.specs.Liveness.{latestFirst, lastReply, Answered, turnsFor, Granted, LiveOrEnded, Liveness}
+use Rattle.runs.specs.TreesAfter.{treeAfter}
+use Rattle.runs.specs.Liveness.{latestFirst, Spaced, lastReply, Answered, AllGrantable, LiveOrEnded, linesFor, turnsFor, Granted, FunctionsGrant, LivenessFor, Liveness}
 use Rattle.runs.proofs.Parts.{bytes-append}
 use Rattle.runs.proofs.Sizes.{insert-fits, remove-fits, put-fits, none-fits, none-well-formed, next-fits, next-well-formed}
-use Rattle.runs.proofs.Sides.{side}
-use Rattle.runs.proofs.Runs.{run, stands-of}
+use Rattle.runs.proofs.Runs.{safety}
+use Rattle.runs.proofs.Spaces.{fed-same, honest-same, reply-same}
 use Rattle.runs.proofs.Fed.{Brings}
 use Rattle.runs.proofs.Standing.{Ground}
 use Rattle.runs.proofs.SetClear.{set-brings, clear-brings}
@@ -34,11 +36,16 @@ use Rattle.runs.proofs.Asks.{ask-answers}
 use Rattle.runs.proofs.Moves.{swap-brings, insert-brings}
 use Rattle.runs.proofs.Removes.{remove-brings}
 use Rattle.runs.proofs.Grown.{rewritten-holds, swapped-holds, with-holds, without-holds}
+use Rattle.runs.proofs.Exchanged.{swap-keeps-shape, swap-exchanges}
 
 module _ (D : List ℕ → Dig) (D32 : (l : List ℕ) → length (D l) ≡ 32) (DB : (l : List ℕ) → Bytes (D l)) where
   module _ (w : World) (T : Tree) (g : Ground D w T) (below : w .registers .counter .0 < top) where
     abbrev s : Registers
     s = w .registers
+
+    -- granted by the lines of `honestLines`, whatever their reply spaces
+    abbrev GrantedBy : Wish → Type 0
+    GrantedBy x = (us : List Turn) → Spaced (linesFor D w T x) us → Granted D w T x us
 
     -- Lines that bring about the list and the registers wanted grant a wish, where the tree wanted has that list's ring.
     grants : (x : Wish) (n : ℕ)
@@ -46,72 +53,93 @@ module _ (D : List ℕ → Dig) (D32 : (l : List ℕ) → length (D l) ≡ 32) (
         let l = itemsAfter s (w .items) x in
         let s′ = registersAfter s (hashOf D U) x in
         Brings D w (honestLines D s T (w .items) x) s′ l n → hashOf D U ≡ s′ .root → s′ .counter .0 ≡ n → Ascending 0 l
-        → Permuted (leaves U) (ring (recordHash D) l) → ItemsFit l → Answered D x (w .items) (lastReply D w (turnsFor D w T x))
-        → Granted D w T x)
-    grants x n b root counter up holds fits answered =
+        → Permuted (leaves U) (ring (recordHash D) l) → ItemsFit l → Moved x T U
+        → Answered D x (w .items) (lastReply D w (turnsFor D w T x)) → GrantedBy x)
+    grants x n b root counter up holds fits moved answered us spaced =
         let U = treeAfter D s T (w .items) x in
+        let qs = honestLines D s T (w .items) x in
+        let e = fed-same D w qs us spaced in
+        let items-are = ap (λ (v : World). v .items) e ∙ b .items-are in
+        let registers-are = ap (λ (v : World). v .registers) e ∙ b .registers-are in
+        let changed-are = ap (λ (v : World). v .changed) e ∙ b .changed-are in
         record {
-          honest = b .fair;
-          items = b .items-are;
-          registers = b .registers-are;
-          stands = record {
-            tree = U;
-            root = root ∙ sym (ap (λ (r : Registers). r .root) (b .registers-are));
-            ascending = subst (Ascending 0) (sym (b .items-are)) up;
-            holds = subst (λ (l : Items). Permuted (leaves U) (ring (recordHash D) l)) (sym (b .items-are)) holds;
-            fits = subst ItemsFit (sym (b .items-are)) fits;
-            counter = ap (λ (r : Registers). r .counter .0) (b .registers-are) ∙ counter ∙ sym (b .changed-are);
+          grants = record {
+            honest = honest-same D w qs us spaced (b .fair);
+            items = items-are;
+            stands = record {
+              tree = U;
+              root = root ∙ sym (ap (λ (r : Registers). r .root) registers-are);
+              ascending = subst (Ascending 0) (sym items-are) up;
+              holds = subst (λ (l : Items). Permuted (leaves U) (ring (recordHash D) l)) (sym items-are) holds;
+              fits = subst ItemsFit (sym items-are) fits;
+              counter = ap (λ (r : Registers). r .counter .0) registers-are ∙ counter ∙ sym changed-are;
+            };
+            registers = registers-are;
+            moved = moved;
+            answered = subst (Answered D x (w .items)) (sym (reply-same D w qs us spaced)) answered;
           };
           tree = refl;
-          answered = answered;
         }
 
     -- each kind of wish
-    granted : (x : Wish) → Legal (w .items) x → Granted D w T x
+    granted : (x : Wish) → Legal (w .items) x → GrantedBy x
     granted (insertItem A) h =
         grants (insertItem A) (w .changed) (insert-brings g A (h .1) (h .0) (h .2)) refl (g .counter)
         (insert-ascending 0 A emptyRecord (w .items) (h .0) (h .2) (g .ascending)) (with-holds g A (h .0) (h .2))
         (insert-fits A emptyRecord (w .items)
-        (record { number-fits = h .1; record-fits = none-fits; well-formed = none-well-formed }) (g .fits)) tt
+        (record { number-fits = h .1; record-fits = none-fits; well-formed = none-well-formed }) (g .fits)) tt tt
     granted (removeItem A) h =
         grants (removeItem A) (w .changed) (remove-brings g A h) refl (g .counter)
-        (remove-ascending 0 A (w .items) (g .ascending)) (without-holds g A h) (remove-fits A (w .items) (g .fits)) tt
+        (remove-ascending 0 A (w .items) (g .ascending)) (without-holds g A h) (remove-fits A (w .items) (g .fits)) tt tt
     granted (swapPlaces A B) h =
         grants (swapPlaces A B) (w .changed) (swap-brings g A B (h .0) (h .1) (h .2)) refl (g .counter)
-        (g .ascending) (swapped-holds g A B (h .0) (h .1) (h .2)) (g .fits) tt
+        (g .ascending) (swapped-holds g A B (h .0) (h .1) (h .2)) (g .fits)
+        (swap-keeps-shape g A B (h .0) (h .1) (h .2), swap-exchanges g A B (h .0) (h .1) (h .2)) tt
     granted (setRecord A v) h =
         let new = nextRecord s v in
         grants (setRecord A v) (w .changed + 1)
         (set-brings g A v (h .0 .0) (h .0 .1) (h .1) below) refl
         (ap (λ (n : ℕ). n + 1) (g .counter)) (put-ascending 0 A new (w .items) (g .ascending))
         (rewritten-holds g A (h .0 .0) new (h .0 .1))
-        (put-fits A new (w .items) (next-fits s v below (h .1)) (next-well-formed s v) (g .fits)) tt
+        (put-fits A new (w .items) (next-fits s v below (h .1)) (next-well-formed s v) (g .fits)) tt tt
     granted (clearRecord A) h =
         grants (clearRecord A) (w .changed + 1) (clear-brings g A (h .0) (h .1) (h .2) below) refl
         (ap (λ (n : ℕ). n + 1) (g .counter)) (put-ascending 0 A clearedRecord (w .items) (g .ascending))
         (rewritten-holds g A (h .0) clearedRecord (h .1))
-        (put-fits A clearedRecord (w .items) none-fits none-well-formed (g .fits)) tt
+        (put-fits A clearedRecord (w .items) none-fits none-well-formed (g .fits)) tt tt
     granted (askAbout q) h =
         let a = ask-answers g q (h .1) (h .0) in
-        grants (askAbout q) (w .changed) (a .brings) (g .root) (g .counter) (g .ascending) (g .holds) (g .fits) (a .reply)
+        grants (askAbout q) (w .changed) (a .brings) (g .root) (g .counter) (g .ascending) (g .holds) (g .fits) tt (a .reply)
+
+  functions-grant : FunctionsGrant D
+  functions-grant w t opened below x h =
+      granted (latestFirst w) (t .tree)
+      (record {
+        ready = record { digests = λ l. record { wide = D32 l; bytes = DB l }; opened = opened };
+        root = t .root;
+        ascending = t .ascending;
+        holds = t .holds;
+        counter = t .counter;
+        fits = t .fits;
+      }) below x h
+
+  all-grantable : AllGrantable D
+  all-grantable w t opened below x h =
+      record {
+        lines = linesFor D (latestFirst w) (t .tree) x;
+        grant = λ us spaced. functions-grant w t opened below x h us spaced .grants;
+      }
 
   live-or-ended : LiveOrEnded D
   live-or-ended k ts opened below = do
-    let w = after D k ts
-    c ← run D D32 k ts
+    safe ← safety .at-any D D32 k ts
     inr (record {
-      stands = stands-of D D32 w (c .0) (side D D32 k ts .well);
-      grants = λ t x h.
-          granted (latestFirst w) (t .tree)
-          (record {
-            ready = record { digests = λ l. record { wide = D32 l; bytes = DB l }; opened = opened };
-            root = t .root;
-            ascending = t .ascending;
-            holds = t .holds;
-            counter = t .counter;
-            fits = t .fits;
-          }) below x h;
+      stands = safe .stands;
+      grants = λ t x h. all-grantable (after D k ts) t opened below x h;
     })
+
+  liveness-for : LivenessFor D
+  liveness-for = record { anywhere = all-grantable; after-runs = live-or-ended; by-functions = functions-grant }
 
 -- ── SHA-256 ──
 
@@ -135,4 +163,4 @@ unfolding sha256
 sha256-bytes m = words-bytes _ _ _ _ _ _ _ _
 
 pub liveness : Liveness
-liveness = record { at-sha256 = live-or-ended sha256 sha256-length sha256-bytes; at-any = live-or-ended }
+liveness = record { at-sha256 = liveness-for sha256 sha256-length sha256-bytes; at-any = liveness-for }

@@ -23,7 +23,7 @@ use Rattle.runs.specs.Run.{Items, World}
 use Rattle.runs.specs.Sizes.{InEightBytes}
 use Rattle.runs.specs.Wishes.{IsListed}
 use Rattle.runs.specs.Ways.{itemOf, nextOf, hashIn, isOf, gapHolds, has, found, wayTo, rise, Fork, forkOf, halves, leftOne, rightOne, Edit, risenTwo}
-use Rattle.runs.specs.Outcomes.{treeWith, treeSwapped}
+use Rattle.runs.specs.TreesAfter.{treeWith, treeSwapped}
 use Rattle.runs.specs.Honest.{sayU2, sayEI, turned, note, twoPlaces, turnRound, takeOver, without, placed, alone, insertLines, swapLines}
 use Rattle.runs.proofs.Parts.{IsDigest}
 use Rattle.runs.proofs.Climbs.{record-digest, tree-digest, IsEdit, risen-two-is}

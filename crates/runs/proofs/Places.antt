@@ -19,7 +19,7 @@ abbrev beside : Level → Tree → Tree
 beside (onLeft S) X = branch S X
 beside (onRight S) X = branch X S
 
-abbrev plug : Way → Tree → Tree
+abbrev pub plug : Way → Tree → Tree
 plug [] X = X
 plug (v ∷ p) X = plug p (beside v X)
 

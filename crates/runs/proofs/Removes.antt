@@ -24,7 +24,7 @@ use Rattle.rings.proofs.Find.{Near, near}
 use Rattle.rings.proofs.Bridge.{zero-is-nought}
 use Rattle.runs.specs.Run.{Items, World}
 use Rattle.runs.specs.Ways.{itemOf, nextOf, hashIn, isOf, leadsTo, has, found, forkOf}
-use Rattle.runs.specs.Outcomes.{treeWithout}
+use Rattle.runs.specs.TreesAfter.{treeWithout}
 use Rattle.runs.specs.Honest.{turned, turnRound, relinked, gone, without, placed, alone, removeLines}
 use Rattle.runs.proofs.Parts.{IsDigest}
 use Rattle.runs.proofs.Climbs.{record-digest, tree-digest}

@@ -19,7 +19,7 @@ use Rattle.rings.specs.Trees.{points, Tree, tip, hashOf}
 use Rattle.rings.specs.Lists.{Listed, putRecord}
 use Rattle.runs.specs.Run.{World}
 use Rattle.runs.specs.Ways.{nextOf, isOf, found, wayTo, rise, Edit, risen}
-use Rattle.runs.specs.Outcomes.{treeRewritten}
+use Rattle.runs.specs.TreesAfter.{treeRewritten}
 use Rattle.runs.specs.Honest.{recordOf, sayU1, note, onePlace, rewritten, setLines, clearLines}
 use Rattle.runs.specs.Sizes.{ValuesFit, ItemFits}
 use Rattle.runs.proofs.Parts.{IsDigest, AllDigests}

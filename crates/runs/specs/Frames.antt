@@ -61,9 +61,17 @@ written (unlock k) = record { kind = 0x10; parts = k ∷ [] }
 abbrev pub frameOf : Request → List ℕ
 frameOf q = written q .kind ∷ together (written q .parts)
 
--- its line, with "reply space of 195 bytes"
+-- its line, without 0A
+abbrev pub lineFor : Request → List ℕ
+lineFor q = digitsOf (frameOf q)
+
+abbrev pub linesOf : List Request → List (List ℕ)
+linesOf [] = []
+linesOf (q ∷ qs) = lineFor q ∷ linesOf qs
+
+-- with "reply space of 195 bytes"
 abbrev pub turnOf : Request → Turn
-turnOf q = record { line = digitsOf (frameOf q); space = replyRoom }
+turnOf q = record { line = lineFor q; space = replyRoom }
 
 abbrev pub turnsOf : List Request → List Turn
 turnsOf [] = []

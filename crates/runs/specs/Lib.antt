@@ -2,10 +2,11 @@ pub mod Run
 pub mod Sizes
 pub mod Endings
 pub mod Safety
-pub mod Frames
 pub mod Wishes
+pub mod Outcomes
+pub mod Frames
 pub mod Ways
 pub mod Honest
-pub mod Outcomes
+pub mod TreesAfter
 pub mod Liveness
 pub mod Also

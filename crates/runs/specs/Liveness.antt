@@ -1,10 +1,14 @@
 -- Demand 3, second half: "Until then, once open and while the counter is below its top, every legal change and every question
 -- on a number above 0 has a run of honest lines that is accepted."
+--
+-- `Grantable` says that there are such lines: `AllGrantable` at any world that a tree stands for, `LiveOrEnded` after any run until
+-- it has ended. Believing those takes nothing of `Frames`, `Ways`, `Honest` and `TreesAfter`; that their functions give such lines is
+-- a law of its own, `FunctionsGrant`.
 use mathlib.Core.Path.{_≡_}
 use mathlib.Core.Bool.{true}
 use mathlib.Core.List.{List, [], _∷_, reverse}
 use mathlib.Core.Logic.{_⊎_}
-use Prim.Native.Nat.{ℕ, _<_}
+use Prim.Native.Nat.{ℕ, _≤_, _<_}
 use lib.ListN.{length}
 use Rattle.seqs.specs.Bytes.{Bytes, be64}
 use Rattle.sha256.specs.Hash.{sha256}
@@ -12,16 +16,17 @@ use Rattle.hex.specs.Hex.{bytesOf}
 use Rattle.paper.specs.declared.Finding.{Finding}
 use Rattle.paper.specs.Strings.{Dig}
 use Rattle.paper.specs.Requests.{requestOf}
-use Rattle.paper.specs.Refusals.{top, carried}
+use Rattle.paper.specs.Refusals.{replyRoom, top, carried}
 use Rattle.paper.specs.Answers.{findingBytes}
 use Rattle.rings.specs.Trees.{Tree, hashOf}
 use Rattle.runs.specs.Run.{Turn, Items, last, Issue, isIssued, World, toldAt, next, after}
 use Rattle.runs.specs.Endings.{Ending}
 use Rattle.runs.specs.Safety.{Stands, TrueFinding}
-use Rattle.runs.specs.Frames.{turnsOf}
 use Rattle.runs.specs.Wishes.{Wish, insertItem, removeItem, swapPlaces, setRecord, clearRecord, askAbout, Legal}
-use Rattle.runs.specs.Outcomes.{itemsAfter, registersAfter, treeAfter}
+use Rattle.runs.specs.Outcomes.{itemsAfter, registersAfter, Moved}
+use Rattle.runs.specs.Frames.{linesOf, turnsOf}
 use Rattle.runs.specs.Honest.{honestLines}
+use Rattle.runs.specs.TreesAfter.{treeAfter}
 
 -- "each memorandum being read here by the last line that issued it": the same world, its book with the latest line first
 abbrev pub latestFirst : World → World
@@ -39,6 +44,13 @@ abbrev pub AllIssued : List Dig → List Issue → Type 0
 AllIssued [] b = Unit {0}
 AllIssued (m ∷ ms) b = (isIssued m b ≡ true) × AllIssued ms b
 
+-- turns that take these lines, each with "reply space of 195 bytes or more"
+abbrev pub Spaced : (lines : List (List ℕ)) → List Turn → Type 0
+Spaced [] [] = Unit {0}
+Spaced [] (t ∷ us) = ⊥
+Spaced (l ∷ ls) [] = ⊥
+Spaced (l ∷ ls) (t ∷ us) = (t .line ≡ l) × (replyRoom ≤ t .space) × Spaced ls us
+
 module _ (D : List ℕ → Dig) where
   -- ── lines fed in turn ──
 
@@ -50,7 +62,8 @@ module _ (D : List ℕ → Dig) where
   abbrev pub Honest : World → List Turn → Type 0
   Honest w [] = Unit {0}
   Honest w (t ∷ ts) =
-      (toldAt D w t .refusal ≡ 0) × AllIssued (carried D (w .registers) (requestOf (bytesOf (t .line)))) (w .book) × Honest (next D last w t) ts
+      (toldAt D w t .refusal ≡ 0) × AllIssued (carried D (w .registers) (requestOf (bytesOf (t .line)))) (w .book)
+      × Honest (next D last w t) ts
 
   -- the reply to the last of them, as bytes
   abbrev pub lastReply : World → List Turn → List ℕ
@@ -74,32 +87,66 @@ module _ (D : List ℕ → Dig) where
   Answered (clearRecord A) l says = Unit {0}
   Answered (askAbout q) l says = TrueReply q l says
 
-  -- the honest lines for a wish, from a world and a tree that stands for it
-  abbrev pub turnsFor : World → Tree → Wish → List Turn
-  turnsFor w T x = turnsOf (honestLines D (w .registers) T (w .items) x)
+  -- Turns that do just what is wanted at a world that the tree T stands for: a tree stands for the list again, the list, the
+  -- registers and the places of leaves are those of `Outcomes`, and a question is answered truly.
+  pub record Grants (w : World) (T : Tree) (x : Wish) (us : List Turn) : Type 0 where
+    pub honest : Honest w us
+    pub items : fed w us .items ≡ itemsAfter (w .registers) (w .items) x
+    pub stands : Stands D (fed w us)
+    pub registers : fed w us .registers ≡ registersAfter (w .registers) (hashOf D (stands .tree)) x
+    pub moved : Moved x T (stands .tree)
+    pub answered : Answered x (w .items) (lastReply w us)
 
-  -- They do just what is wanted: the list, the registers and the tree after them are those of `Outcomes`, the tree stands for
-  -- the list again, and a question is answered truly.
-  pub record Granted (w : World) (T : Tree) (x : Wish) : Type 0 where
-    pub honest : Honest w (turnsFor w T x)
-    pub items : fed w (turnsFor w T x) .items ≡ itemsAfter (w .registers) (w .items) x
-    pub registers : fed w (turnsFor w T x) .registers
-        ≡ registersAfter (w .registers) (hashOf D (treeAfter D (w .registers) T (w .items) x)) x
-    pub stands : Stands D (fed w (turnsFor w T x))
-    pub tree : stands .tree ≡ treeAfter D (w .registers) T (w .items) x
-    pub answered : Answered x (w .items) (lastReply w (turnsFor w T x))
+  -- ── there are such lines ──
 
-  -- open and below the top: a tree stands for the world, and from every such tree every legal wish is granted
+  -- lines as bytes, without their 0A, that do so whatever their reply spaces
+  pub record Grantable (w : World) (T : Tree) (x : Wish) : Type 0 where
+    pub lines : List (List ℕ)
+    pub grant : (us : List Turn) → Spaced lines us → Grants w T x us
+
+  -- at any world that a tree stands for, however it came about
+  abbrev pub AllGrantable : Type 0
+  AllGrantable =
+      (w : World) (s : Stands D w) → w .registers .opened ≡ true → w .registers .counter .0 < top → (x : Wish)
+      → Legal (w .items) x → Grantable (latestFirst w) (s .tree) x
+
+  -- after any run: a tree stands for the world, and from every such tree every legal wish is granted
   pub record Live (w : World) : Type 0 where
     pub stands : Stands D w
-    pub grants : (s : Stands D w) (x : Wish) → Legal (w .items) x → Granted (latestFirst w) (s .tree) x
+    pub grants : (s : Stands D w) (x : Wish) → Legal (w .items) x → Grantable (latestFirst w) (s .tree) x
 
   abbrev pub LiveOrEnded : Type 0
   LiveOrEnded =
       (secret : Dig) (ts : List Turn) → after D secret ts .registers .opened ≡ true
       → after D secret ts .registers .counter .0 < top → Ending D secret ts ⊎ Live (after D secret ts)
 
+  -- ── functions that give them ──
+
+  -- the honest lines for a wish, from a world and a tree that stands for it
+  abbrev pub linesFor : World → Tree → Wish → List (List ℕ)
+  linesFor w T x = linesOf (honestLines D (w .registers) T (w .items) x)
+
+  -- with reply space of 195 bytes
+  abbrev pub turnsFor : World → Tree → Wish → List Turn
+  turnsFor w T x = turnsOf (honestLines D (w .registers) T (w .items) x)
+
+  -- they grant it, and the tree after them is that of `TreesAfter`
+  pub record Granted (w : World) (T : Tree) (x : Wish) (us : List Turn) : Type 0 where
+    pub grants : Grants w T x us
+    pub tree : grants .stands .tree ≡ treeAfter D (w .registers) T (w .items) x
+
+  abbrev pub FunctionsGrant : Type 0
+  FunctionsGrant =
+      (w : World) (s : Stands D w) → w .registers .opened ≡ true → w .registers .counter .0 < top → (x : Wish)
+      → Legal (w .items) x → (us : List Turn) → Spaced (linesFor (latestFirst w) (s .tree) x) us
+      → Granted (latestFirst w) (s .tree) x us
+
+  pub record LivenessFor : Type 0 where
+    pub anywhere : AllGrantable
+    pub after-runs : LiveOrEnded
+    pub by-functions : FunctionsGrant
+
 -- for SHA-256, and for any digest of 32 bytes
 pub record Liveness : Type 0 where
-  pub at-sha256 : LiveOrEnded sha256
-  pub at-any : (D : List ℕ → Dig) → ((l : List ℕ) → length (D l) ≡ 32) → ((l : List ℕ) → Bytes (D l)) → LiveOrEnded D
+  pub at-sha256 : LivenessFor sha256
+  pub at-any : (D : List ℕ → Dig) → ((l : List ℕ) → length (D l) ≡ 32) → ((l : List ℕ) → Bytes (D l)) → LivenessFor D

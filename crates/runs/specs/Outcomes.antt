@@ -1,17 +1,16 @@
--- What a legal wish comes to: the list, the registers, and the tree that then stands for the list. Only the leaves concerned are
--- replaced; the rest of the tree stays where it is.
-use mathlib.Core.List.{List, [], _∷_}
+-- What a legal wish comes to: the list, the registers, and for a swap where leaves stand.
+use mathlib.Core.Path.{_≡_}
+use mathlib.Core.List.{List, _∷_, _++_}
+use mathlib.Core.Logic.{_⊎_}
 use Prim.Native.Nat.{ℕ}
-use Rattle.paper.specs.declared.Record.{Record}
 use Rattle.paper.specs.declared.Registers.{Registers}
-use Rattle.paper.specs.Strings.{Dig, nought, emptyRecord, recordHash}
+use Rattle.paper.specs.Strings.{Dig, emptyRecord}
 use Rattle.paper.specs.Refusals.{nextRecord, clearedRecord}
 use Rattle.paper.specs.Answers.{rooted, raised}
-use Rattle.rings.specs.Trees.{points, Tree, empty, tip, branch}
+use Rattle.rings.specs.Trees.{Leaf, points, Tree, empty, tip, branch, leaves}
 use Rattle.rings.specs.Lists.{insert, remove, putRecord}
 use Rattle.runs.specs.Run.{Items}
 use Rattle.runs.specs.Wishes.{Wish, insertItem, removeItem, swapPlaces, setRecord, clearRecord, askAbout}
-use Rattle.runs.specs.Ways.{itemOf, nextOf, hashIn, isOf, leadsTo, gapHolds, found, regrown, replacing, replacingTwo}
 
 -- the list: "the new record is [c+1, v2, v3, v4], or empty for clear"
 abbrev pub itemsAfter : Registers → Items → Wish → Items
@@ -31,41 +30,34 @@ registersAfter s y (setRecord A v) = raised s y
 registersAfter s y (clearRecord A) = raised s y
 registersAfter s y (askAbout q) = s
 
--- the tree
-module _ (D : List ℕ → Dig) where
-  -- A's leaf alone; else the leaf whose gap holds A becomes two leaves under one node
-  abbrev pub treeWith : (A : ℕ) → Tree → Items → Tree
-  treeWith A T [] = tip (points A A nought)
-  treeWith A T (i ∷ l) =
-      let x = found (gapHolds A) T in
-      regrown (replacing x (branch (tip (points (itemOf x) A (hashIn x))) (tip (points A (nextOf x) nought)))) T
+-- ── places ──
 
-  -- nothing; else the leaf that led to A leads past it, and A's own leaf goes
-  abbrev pub treeWithout : (A : ℕ) → Tree → Items → Tree
-  treeWithout A T [] = empty
-  treeWithout A T (i ∷ []) = empty
-  treeWithout A T (i ∷ j ∷ l) =
-      let x = found (leadsTo A) T in
-      let z = found (isOf A) T in
-      regrown (replacingTwo x (tip (points (itemOf x) (nextOf z) (hashIn x))) z empty) T
+-- trees that differ in their leaves alone
+pub data SameShape : Tree → Tree → Type 0 where
+  nothings : SameShape empty empty
+  tips : (x y : Leaf) → SameShape (tip x) (tip y)
+  branches : {l r l′ r′ : Tree} → SameShape l l′ → SameShape r r′ → SameShape (branch l r) (branch l′ r′)
 
-  -- exactly those two leaves exchanged
-  abbrev pub treeSwapped : (A B : ℕ) → Tree → Tree
-  treeSwapped A B T =
-      let x = found (isOf A) T in
-      let z = found (isOf B) T in
-      regrown (replacingTwo x (tip z) z (tip x)) T
+abbrev pub IsLeafOf : (A : ℕ) → Leaf → Type 0
+IsLeafOf A x = (A′ : ℕ) × (ω : Dig) × (x ≡ points A A′ ω)
 
-  -- A's leaf with the hash of another record
-  abbrev pub treeRewritten : (A : ℕ) (new : Record) → Tree → Tree
-  treeRewritten A new T =
-      let x = found (isOf A) T in
-      regrown (replacing x (tip (points A (nextOf x) (recordHash D new)))) T
+-- among the leaves of a tree, from left to right, those of A and B have changed places, whichever stood on the left, and no other
+-- leaf has moved
+pub record Exchanged (A B : ℕ) (before after : List Leaf) : Type 0 where
+  pub left : Leaf
+  pub right : Leaf
+  pub theirs : (IsLeafOf A left × IsLeafOf B right) ⊎ (IsLeafOf B left × IsLeafOf A right)
+  pub front : List Leaf
+  pub between : List Leaf
+  pub back : List Leaf
+  pub was : before ≡ front ++ (left ∷ (between ++ (right ∷ back)))
+  pub becomes : after ≡ front ++ (right ∷ (between ++ (left ∷ back)))
 
-  abbrev pub treeAfter : Registers → Tree → Items → Wish → Tree
-  treeAfter s T l (insertItem A) = treeWith A T l
-  treeAfter s T l (removeItem A) = treeWithout A T l
-  treeAfter s T l (swapPlaces A B) = treeSwapped A B T
-  treeAfter s T l (setRecord A v) = treeRewritten A (nextRecord s v) T
-  treeAfter s T l (clearRecord A) = treeRewritten A clearedRecord T
-  treeAfter s T l (askAbout q) = T
+-- "to swap the places of two listed items". Of the other wishes the list says it all: where their leaves stand is free
+abbrev pub Moved : Wish → (before after : Tree) → Type 0
+Moved (insertItem A) T U = Unit {0}
+Moved (removeItem A) T U = Unit {0}
+Moved (swapPlaces A B) T U = SameShape T U × Exchanged A B (leaves T) (leaves U)
+Moved (setRecord A v) T U = Unit {0}
+Moved (clearRecord A) T U = Unit {0}
+Moved (askAbout q) T U = Unit {0}
