@@ -26,7 +26,7 @@ use Rattle.runs.specs.Honest.{honestLines}
 use Rattle.runs.specs.TreesAfter.{treeAfter}
 use Rattle.runs.specs.Liveness.{latestFirst, Spaced, lastReply, Answered, AllGrantable, LiveOrEnded, linesFor, turnsFor, Granted, FunctionsGrant, LivenessFor, Liveness}
 use Rattle.runs.proofs.Parts.{bytes-append}
-use Rattle.runs.proofs.Sizes.{insert-fits, remove-fits, put-fits, none-fits, none-well-formed, next-fits, next-well-formed}
+use Rattle.runs.proofs.Sizes.{item-fits, insert-fits, remove-fits, put-fits, none-fits, none-well-formed, next-fits, next-well-formed}
 use Rattle.runs.proofs.Runs.{safety}
 use Rattle.runs.proofs.Spaces.{fed-same, honest-same, reply-same}
 use Rattle.runs.proofs.Fed.{Brings}
@@ -86,8 +86,7 @@ module _ (D : List ℕ → Dig) (D32 : (l : List ℕ) → length (D l) ≡ 32) (
     granted (insertItem A) h =
         grants (insertItem A) (w .changed) (insert-brings g A (h .1) (h .0) (h .2)) refl (g .counter)
         (insert-ascending 0 A emptyRecord (w .items) (h .0) (h .2) (g .ascending)) (with-holds g A (h .0) (h .2))
-        (insert-fits A emptyRecord (w .items)
-        (record { number-fits = h .1; record-fits = none-fits; well-formed = none-well-formed }) (g .fits)) tt tt
+        (insert-fits A emptyRecord (w .items) (item-fits A emptyRecord (h .1) none-fits none-well-formed) (g .fits)) tt tt
     granted (removeItem A) h =
         grants (removeItem A) (w .changed) (remove-brings g A h) refl (g .counter)
         (remove-ascending 0 A (w .items) (g .ascending)) (without-holds g A h) (remove-fits A (w .items) (g .fits)) tt tt

@@ -24,7 +24,7 @@ use Rattle.rings.proofs.Find.{item-leaf}
 use Rattle.rings.proofs.Records.{hashRecord, Known, known-empty, known-recorded}
 use Rattle.rings.proofs.Bridge.{known-passes}
 use Rattle.runs.specs.Run.{Items, World}
-use Rattle.runs.specs.Sizes.{ValuesFit, RecordFits, ItemFits, ItemsFit}
+use Rattle.runs.specs.Sizes.{InEightBytes, ValuesFit, RecordFits, ItemFits, ItemsFit}
 use Rattle.runs.specs.Honest.{recordOf}
 use Rattle.runs.proofs.Formed.{Well, well-at}
 use Rattle.runs.proofs.Safe.{Core}
@@ -42,6 +42,9 @@ record-is b A r (item a s ∷ l) g m =
     ]
 
 -- ── lists that fit, changed ──
+
+pub item-fits : (A : ℕ) (r : Record) → InEightBytes A → RecordFits r → malformed r ≡ false → ItemFits A r
+item-fits A r n f m = record { number-fits = n; record-fits = f; well-formed = rw m refl }
 
 one-more : (A : ℕ) (r : Record) (l : Items) → ItemFits A r → ItemsFit l → ItemsFit (item A r ∷ l)
 one-more A r l f g B s m =
@@ -80,9 +83,7 @@ put-fits A r [] f n g = g
 put-fits A r (item a s ∷ l) f n g = go (eqb A a) (put-fits A r l f n (others-fit a s l g))
   where
     go : (b : Bool) → ItemsFit (putRecord A r l) → ItemsFit (pick b (item a r ∷ l) (item a s ∷ putRecord A r l))
-    go true k =
-        one-more a r l (record { number-fits = first-fits a s l g .number-fits; record-fits = f; well-formed = n })
-        (others-fit a s l g)
+    go true k = one-more a r l (item-fits a r (first-fits a s l g .number-fits) f n) (others-fit a s l g)
     go false k = one-more a s (putRecord A r l) (first-fits a s l g) k
 
 -- the records that changes put there: none, and the next one below the top
@@ -129,8 +130,4 @@ listed-fits D D32 w c h A r m =
     let i = item-leaf (hashRecord dig) A r (w .items) m in
     let x = points A (i .0) (hashRecord dig r) in
     let f = leaf-formed dig (w .formed) (c .tree) A (i .0) (hashRecord dig r) (g .tree-in) (omega (arith, g .permuted x, i .1)) in
-    record {
-      number-fits = well-at (w .formed) _ h f .0;
-      record-fits = known-fits dig (w .formed) r h k;
-      well-formed = known-passes dig (w .formed) r k;
-    }
+    item-fits A r (well-at (w .formed) _ h f .0) (known-fits dig (w .formed) r h k) (known-passes dig (w .formed) r k)
