@@ -35,6 +35,7 @@
 -- Live        hence every legal wish is granted: `liveness`
 --
 -- Also        the root settles the list, and what else holds of runs: `also`
+-- ByHand      what is legal, true and replied, on one short list
 pub mod Widths
 pub mod Parts
 pub mod Frames
@@ -64,3 +65,4 @@ pub mod Grown
 pub mod Exchanged
 pub mod Live
 pub mod Also
+pub mod ByHand

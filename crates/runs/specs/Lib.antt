@@ -10,3 +10,4 @@ pub mod Honest
 pub mod TreesAfter
 pub mod Liveness
 pub mod Also
+pub mod ByHand

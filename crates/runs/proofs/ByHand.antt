@@ -1,0 +1,152 @@
+-- The rows by hand: what is in a list of two and in its ring, and arithmetic.
+use mathlib.Core.Path.{_≡_, refl, sym, ap, _∙_}
+use mathlib.Core.Bool.{true≢false}
+use mathlib.Core.List.{List, List·Memᴰ·head, List·Memᴰ·tail}
+use mathlib.Core.Logic.{_≢_}
+use Prim.Native.Nat.{ℕ}
+use native.Mathlib.Omega.{arith}
+use Rattle.seqs.specs.Choose.{_and_}
+use Rattle.paper.specs.declared.Record.{Record}
+use Rattle.paper.specs.Strings.{Dig, emptyRecord, blank, inGap}
+use Rattle.rings.specs.Trees.{Leaf, points}
+use Rattle.rings.specs.Lists.{Item, item, Listed, Unlisted}
+use Rattle.runs.specs.Safety.{Neighbours}
+use Rattle.runs.specs.ByHand.{rotor, small, wishes, findings, EveryRow, ByHand}
+
+-- ── what is listed ──
+
+at-5 : Listed 5 emptyRecord small
+at-5 = List·Memᴰ·head refl
+
+at-9 : Listed 9 rotor small
+at-9 = List·Memᴰ·tail (List·Memᴰ·head refl)
+
+abbrev numberIn : Item Record → ℕ
+numberIn (item A r) = A
+
+abbrev recordIn : Item Record → Record
+recordIn (item A r) = r
+
+no-other : {A : ℕ} {r : Record} → A ≢ 5 → A ≢ 9 → Listed A r small → ⊥
+no-other n m (List·Memᴰ·head e) = n (ap numberIn e)
+no-other n m (List·Memᴰ·tail (List·Memᴰ·head e)) = m (ap numberIn e)
+
+-- the only record that an item has, and its numbers
+only-at-5 : {r : Record} → Listed 5 r small → r ≡ emptyRecord
+only-at-5 (List·Memᴰ·head e) = ap recordIn e
+only-at-5 (List·Memᴰ·tail (List·Memᴰ·head e)) = absurd (omega (arith, ap numberIn e))
+
+only-at-9 : {r : Record} → Listed 9 r small → r ≡ rotor
+only-at-9 (List·Memᴰ·head e) = absurd (omega (arith, ap numberIn e))
+only-at-9 (List·Memᴰ·tail (List·Memᴰ·head e)) = ap recordIn e
+
+abbrev revisionOf : Record → ℕ
+revisionOf r = r .revision .0
+
+abbrev massOf : Record → ℕ
+massOf r = r .mass .0
+
+abbrev offsetOf : Record → ℕ
+offsetOf r = r .offset .0
+
+abbrev riggingOf : Record → ℕ
+riggingOf r = r .rigging .0
+
+unlisted : (A : ℕ) → A ≢ 5 → A ≢ 9 → Unlisted A small
+unlisted A n m = (n, (m, tt))
+
+-- ── neighbours ──
+
+abbrev fromOf : Leaf → ℕ
+fromOf (points A A′ ω) = A
+
+abbrev toOf : Leaf → ℕ
+toOf (points A A′ ω) = A′
+
+module _ (D : List ℕ → Dig) where
+  from-5 : Neighbours D 5 9 small
+  from-5 = (emptyRecord, at-5, List·Memᴰ·head refl)
+
+  from-9 : Neighbours D 9 5 small
+  from-9 = (rotor, at-9, List·Memᴰ·tail (List·Memᴰ·head refl))
+
+  -- 5 leads to 9 alone
+  only-to-9 : {A′ : ℕ} → A′ ≢ 9 → Neighbours D 5 A′ small → ⊥
+  only-to-9 n (r, h, List·Memᴰ·head e) = n (ap toOf e)
+  only-to-9 n (r, h, List·Memᴰ·tail (List·Memᴰ·head e)) = absurd (omega (arith, ap fromOf e))
+
+  -- ── the rows ──
+
+  legal : EveryRow D wishes
+  legal =
+      -- insert
+      (omega arith, omega arith, unlisted 7 (omega arith) (omega arith))
+      and (omega arith, omega arith, unlisted _ (omega arith) (omega arith))
+      and (λ h. omega (arith, h .0))
+      and (λ h. h .2 .0 refl)
+      and (λ h. h .2 .1 .0 refl)
+      and (λ h. omega (arith, h .1))
+      -- remove
+      and at-5
+      and (λ h. omega (arith, ap revisionOf (only-at-9 h)))
+      and no-other (omega arith) (omega arith)
+      -- swap
+      and (omega arith, (_, at-5), (_, at-9))
+      and (omega arith, (_, at-9), (_, at-5))
+      and (λ h. h .0 refl)
+      and (λ h. no-other (omega arith) (omega arith) (h .2 .1))
+      and (λ h. no-other (omega arith) (omega arith) (h .1 .1))
+      -- set
+      and ((_, at-5), (omega arith, omega arith, omega arith))
+      and ((_, at-9), (omega arith, omega arith, omega arith))
+      and ((_, at-9), (omega arith, omega arith, omega arith))
+      and (λ h. no-other (omega arith) (omega arith) (h .0 .1))
+      and (λ h. omega (arith, h .1 .0))
+      and (λ h. omega (arith, h .1 .1))
+      and (λ h. omega (arith, h .1 .2))
+      -- clear
+      and (_, at-9, refl)
+      and (λ h. true≢false (sym (ap blank (only-at-5 (h .1))) ∙ h .2))
+      and (λ h. no-other (omega arith) (omega arith) (h .1))
+      -- ask
+      and (omega arith, omega arith)
+      and (omega arith, omega arith)
+      and (omega arith, omega arith)
+      and (omega arith, omega arith)
+      and (λ h. omega (arith, h .0))
+      and (λ h. omega (arith, h .1))
+      and tt
+
+  true-findings : EveryRow D findings
+  unfolding inGap
+  true-findings =
+      -- a record
+      (refl, refl, at-9)
+      and (λ h. omega (arith, ap revisionOf (only-at-9 (h .2))))
+      and (λ h. omega (arith, ap massOf (only-at-9 (h .2))))
+      and (λ h. omega (arith, ap offsetOf (only-at-9 (h .2))))
+      and (λ h. omega (arith, ap riggingOf (only-at-9 (h .2))))
+      and (λ h. omega (arith, h .0))
+      and (λ h. omega (arith, ap revisionOf (only-at-5 (h .2))))
+      and (λ h. true≢false (h .1))
+      -- listed
+      and (refl, at-5)
+      and (λ h. omega (arith, ap revisionOf (only-at-9 (h .1))))
+      and (λ h. omega (arith, h .0))
+      and (λ h. no-other (omega arith) (omega arith) (h .1))
+      -- a gap
+      and (refl, unlisted 7 (omega arith) (omega arith), from-5)
+      and (refl, unlisted 12 (omega arith) (omega arith), from-9)
+      and (refl, unlisted 2 (omega arith) (omega arith), from-9)
+      and (λ h. true≢false (sym (h .0)))
+      and (λ h. true≢false (sym (h .0)))
+      and (λ h. true≢false (sym (h .0)))
+      and (λ h. true≢false (sym (h .0)))
+      and (λ h. true≢false (sym (h .0)))
+      and (λ h. only-to-9 (omega arith) (h .2))
+      and (λ h. only-to-9 (omega arith) (h .2))
+      and (λ h. h .1 .1 .0 refl)
+      and tt
+
+pub by-hand : ByHand
+by-hand = record { legal = legal; true-findings = true-findings }
