@@ -10,22 +10,24 @@ use Rattle.seqs.specs.Choose.{pick, either}
 use Rattle.seqs.specs.Bytes.{same}
 use Rattle.sha256.specs.Hash.{sha256}
 use Rattle.sha256.proofs.Digests.{sha256-length}
-use Rattle.paper.specs.Strings.{Dig, Str, digest}
-use Rattle.rings.proofs.Nodes.{Within, _>>=_, instead}
+use Rattle.paper.specs.Strings.{Dig, digest}
+use Rattle.rings.proofs.Nodes.{_>>=_, instead}
 use Rattle.rings.proofs.Memos.{stands-more}
 use Rattle.rings.proofs.Endings.{fault-shows}
 use Rattle.rings.proofs.InPaper.{same-list}
 use Rattle.runs.specs.Run.{Turn, Issue, standsFor, isIssued, issuedBy, toldAt, after}
-use Rattle.runs.specs.Endings.{Ending, collision, zero, forged, earlier}
+use Rattle.runs.specs.Endings.{Ending}
 use Rattle.runs.specs.Safety.{SafeOrEnded}
-use Rattle.runs.specs.Liveness.{turnsFor, FunctionsGrant}
-use Rattle.runs.specs.Also.{onwards, Shown, RootSettlesList, AnyForged, NoOtherWayOut, HonestReplayed, EarliestStays, NotEndedAtFirst, AlsoFor, Also}
+use Rattle.runs.specs.Liveness.{latestFirst, Grants, turnsFor, FunctionsGrant}
+use Rattle.runs.specs.Outcomes.{itemsAfter}
+use Rattle.runs.specs.Also.{onwards, Shown, RootSettlesList, NoOtherWayOut, Replayed, HonestReplayed, EarliestStays, AlsoFor, Also}
 use Rattle.runs.proofs.Formed.{well-at, well-append}
 use Rattle.runs.proofs.Sides.{side}
 use Rattle.runs.proofs.Runs.{run, stands-of, safety}
 use Rattle.runs.proofs.Readings.{readings-agree}
 use Rattle.runs.proofs.Spaces.{own-turns}
 use Rattle.runs.proofs.Live.{liveness}
+use Rattle.runs.proofs.Ended.{ending-is, honest-ends-nothing, not-ended-before-open, not-ended-by-opening}
 
 module _ (D : List ℕ → Dig) (D32 : (l : List ℕ) → length (D l) ≡ 32) where
   -- ── the root settles the list ──
@@ -45,35 +47,9 @@ module _ (D : List ℕ → Dig) (D32 : (l : List ℕ) → length (D l) ≡ 32) w
 -- ── the only ways out ──
 
 module _ (D : List ℕ → Dig) where
-  shown-more : (F G : List Str) → Within F G → Shown D F → Shown D G
-  shown-more F G s (inl c) =
-      inl (record {
-        one = c .one;
-        other = c .other;
-        one-formed = s (c .one) (c .one-formed);
-        other-formed = s (c .other) (c .other-formed);
-        differ = c .differ;
-        agree = c .agree;
-      })
-  shown-more F G s (inr z) =
-      inr (record { string = z .string; string-formed = s (z .string) (z .string-formed); zero-digest = z .zero-digest })
-
-  ways-out : {k : Dig} {ts : List Turn} → Ending D k ts → Shown D (after D k ts .formed) ⊎ AnyForged D k ts
-  ways-out (collision c) = inl (inl c)
-  ways-out (zero z) = inl (inr z)
-  ways-out (forged t f) = inr (inl f)
-  ways-out {k} (earlier {ts = ts} t e) = later (ways-out e)
-    where
-      more : Within (after D k ts .formed) (after D k (t ∷ ts) .formed)
-      more s i = Memᴰ·append-right (toldAt D (after D k ts) t .formed) i
-
-      later : Shown D (after D k ts .formed) ⊎ AnyForged D k ts → Shown D (after D k (t ∷ ts) .formed) ⊎ AnyForged D k (t ∷ ts)
-      later (inl x) = inl (shown-more (after D k ts .formed) (after D k (t ∷ ts) .formed) more x)
-      later (inr x) = inr (inr x)
-
   no-other-way-out : SafeOrEnded D → NoOtherWayOut D
   no-other-way-out safe k ts n m =
-      elim (safe k ts) [ inl e ↦ absurd (elim (ways-out e) [ inl x ↦ n x | inr x ↦ m x ]) | inr s ↦ s ]
+      elim (safe k ts) [ inl e ↦ absurd (elim (ending-is D k ts .only e) [ inl x ↦ n x | inr x ↦ m x ]) | inr s ↦ s ]
 
   -- ── what the earliest line meant ──
 
@@ -90,32 +66,44 @@ module _ (D : List ℕ → Dig) where
   earliest-stays k ts t m h = stands-append m (after D k ts .book)
       (issuedBy D (after D k ts) (toldAt D (after D k ts) t .effect)) h
 
-not-ended-at-first : (D : List ℕ → Dig) → NotEndedAtFirst D
-not-ended-at-first D k (collision c) = elim (c .one-formed) [ ]
-not-ended-at-first D k (zero z) = elim (z .string-formed) [ ]
-
 also-for : (D : List ℕ → Dig) → ((l : List ℕ) → length (D l) ≡ 32) → AlsoFor D
 also-for D D32 =
     record {
       root-settles = root-settles D D32;
       readings-agree = readings-agree D D32;
+      ending-is = ending-is D;
       no-other-way-out = no-other-way-out D (safety .at-any D D32);
+      not-ended-before-open = not-ended-before-open D D32;
+      not-ended-by-opening = not-ended-by-opening D D32;
+      honest-ends-nothing = honest-ends-nothing D;
       earliest-stays = earliest-stays D;
-      not-ended-at-first = not-ended-at-first D;
     }
 
 -- ── granted wishes, replayed ──
 
 honest-replayed : (D : List ℕ → Dig) → ((l : List ℕ) → length (D l) ≡ 32) → FunctionsGrant D → HonestReplayed D
-honest-replayed D D32 grant k ts opened below t x legal = do
-  let us = turnsFor D (after D k ts) (t .tree) x
-  let g = grant (after D k ts) t opened below x legal us (own-turns D (after D k ts) (t .tree) x) .grants
+honest-replayed D D32 grant k ts opened below t x legal = sorted-out (instead (honest-ends-nothing D k ts us (g .honest)) (do
   e ← readings-agree D D32 k ts us
   c ← run D D32 k (onwards us ts)
   inr (record {
     items = sym e ∙ g .items;
     stands = stands-of D D32 (after D k (onwards us ts)) (c .0) (side D D32 k (onwards us ts) .well);
-  })
+  })))
+  where
+    us : List Turn
+    us = turnsFor D (after D k ts) (t .tree) x
+
+    g : Grants D (latestFirst (after D k ts)) (t .tree) x us
+    g = grant (after D k ts) t opened below x legal us (own-turns D (after D k ts) (t .tree) x) .grants
+
+    Wanted : Type 0
+    Wanted = Replayed D k ts us (itemsAfter (after D k ts .registers) (after D k ts .items) x)
+
+    sorted-out : (Ending D k ts ⊎ Shown D (after D k (onwards us ts) .formed)) ⊎ Wanted
+        → Ending D k ts ⊎ (Shown D (after D k (onwards us ts) .formed) ⊎ Wanted)
+    sorted-out (inl (inl e)) = inl e
+    sorted-out (inl (inr s)) = inr (inl s)
+    sorted-out (inr r) = inr (inr r)
 
 pub also : Also
 also =

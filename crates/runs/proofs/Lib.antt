@@ -16,6 +16,7 @@
 -- Sizes       what is listed fits lines, in a run and after a legal change
 -- Runs        any line keeps it or ends the run: `safety`
 -- Readings    memoranda read by the earliest and by the last line that issued them come to one list
+-- Ended       what an ending is; none before the module is open or by opening it, and none by honest lines
 --
 -- Every legal wish is granted
 -- Climbs      ways in a tree: what paths along them fold to, cut at 64 levels
@@ -49,6 +50,7 @@ pub mod Safe
 pub mod Sizes
 pub mod Runs
 pub mod Readings
+pub mod Ended
 pub mod Climbs
 pub mod Places
 pub mod RingLeaves

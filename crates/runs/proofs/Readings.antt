@@ -59,12 +59,12 @@ either-false false = refl
 
 -- ── worlds that differ in their reading alone ──
 
-record Alike (v w : World) : Type 0 where
-  registers : v .registers ≡ w .registers
-  formed : v .formed ≡ w .formed
-  issued : (m : Dig) → isIssued m (v .book) ≡ isIssued m (w .book)
+pub record Alike (v w : World) : Type 0 where
+  pub registers : v .registers ≡ w .registers
+  pub formed : v .formed ≡ w .formed
+  pub issued : (m : Dig) → isIssued m (v .book) ≡ isIssued m (w .book)
 
-alike-latest : (w : World) → Alike (latestFirst w) w
+pub alike-latest : (w : World) → Alike (latestFirst w) w
 alike-latest w =
     record {
       registers = refl;
@@ -84,7 +84,7 @@ module _ (D : List ℕ → Dig) where
   issued-alike v w (adopts n) m h = refl
   issued-alike v w (changes A r) m h = refl
 
-  alike-next : (by by′ : Reading) (v w : World) (t : Turn) → Alike v w → Alike (next D by v t) (next D by′ w t)
+  pub alike-next : (by by′ : Reading) (v w : World) (t : Turn) → Alike v w → Alike (next D by v t) (next D by′ w t)
   alike-next by by′ v w t a =
       let e = told-alike v w t a in
       record {
@@ -132,7 +132,7 @@ module _ (D : List ℕ → Dig) (D32 : (l : List ℕ) → length (D l) ≡ 32) w
 
   -- ── further lines ──
 
-  pub ended : (k : Dig) (us ts : List Turn) → Ending D k ts → Ending D k (onwards us ts)
+  ended : (k : Dig) (us ts : List Turn) → Ending D k ts → Ending D k (onwards us ts)
   ended k [] ts e = e
   ended k (t ∷ us) ts e = ended k us (t ∷ ts) (earlier t e)
 

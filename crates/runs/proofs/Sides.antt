@@ -1,6 +1,6 @@
--- What no memorandum bears on, a line at a time: the counter is a number of 64 bits, an open module has a secret, every string
--- formed is well formed, and before opening nothing is touched.
-use mathlib.Core.Path.{_≡_, refl, sym, subst, _∙_}
+-- What no memorandum bears on, a line at a time: the counter is a number of 64 bits, an open module has a secret and stays open,
+-- every string formed is well formed, and before opening nothing is touched, formed or carried.
+use mathlib.Core.Path.{_≡_, refl, sym, ap, subst, _∙_}
 use mathlib.Core.Bool.{Bool, true, false, true≢false}
 use mathlib.Core.List.{List, [], _∷_, _++_}
 use mathlib.Core.Logic.{inl, inr}
@@ -13,7 +13,7 @@ use Rattle.paper.specs.declared.Registers.{Registers}
 use Rattle.paper.specs.Strings.{Dig, Str}
 use Rattle.paper.specs.Requests as Q
 use Rattle.paper.specs.Requests.{Request}
-use Rattle.paper.specs.Refusals.{top, needs, Verdict, refused, passed, judge}
+use Rattle.paper.specs.Refusals.{top, needs, carried, Verdict, refused, passed, judge}
 use Rattle.paper.specs.Answers.{rooted, raised, answer}
 use Rattle.paper.specs.Module.{Told, told}
 use Rattle.paper.proofs.Early.{late}
@@ -33,20 +33,31 @@ module _ (D : List ℕ → Dig) (D32 : (l : List ℕ) → length (D l) ≡ 32) w
   abbrev Keyed : Registers → Type 0
   Keyed s = s .opened ≡ true → Is32 (s .secret)
 
-  -- what an accepted line leaves in the registers, whatever its root
-  record Left (s a : Registers) : Type 0 where
+  -- what an accepted line leaves in the registers, whatever its root; and that it carries no memorandum to a module that is not
+  -- open
+  record Left (s a : Registers) (carries : List Dig) : Type 0 where
     small : InEightBytes (s .counter .0) → InEightBytes (a .counter .0)
     keyed : Keyed s → Keyed a
     opened : a .opened ≡ true
+    shut : s .opened ≡ false → carries ≡ []
 
-  stays : (s : Registers) (y : Dig) → opposite (s .opened) ≡ false → Left s (rooted s y)
-  stays s y o = record { small = λ c. c; keyed = λ k. k; opened = opposite-false (s .opened) o }
+  not-shut : {A : Type 0} (s : Registers) → opposite (s .opened) ≡ false → s .opened ≡ false → A
+  not-shut s o z = absurd (true≢false (sym (opposite-false (s .opened) o) ∙ z))
 
-  raises : (s : Registers) (y : Dig) → opposite (s .opened) ≡ false → eqb (s .counter .0) top ≡ false → Left s (raised s y)
+  stays : {ms : List Dig} (s : Registers) (y : Dig) → opposite (s .opened) ≡ false → Left s (rooted s y) ms
+  stays s y o = record { small = λ c. c; keyed = λ k. k; opened = opposite-false (s .opened) o; shut = not-shut s o }
+
+  raises : {ms : List Dig} (s : Registers) (y : Dig) → opposite (s .opened) ≡ false → eqb (s .counter .0) top ≡ false
+      → Left s (raised s y) ms
   raises s y o e =
-      record { small = λ c. below-top (s .counter .0) c e; keyed = λ k. k; opened = opposite-false (s .opened) o }
+      record {
+        small = λ c. below-top (s .counter .0) c e;
+        keyed = λ k. k;
+        opened = opposite-false (s .opened) o;
+        shut = not-shut s o;
+      }
 
-  left : (s : Registers) (q : Request) → NoneFails (needs D s q) → Wide q → Left s (answer D s q .after)
+  left : (s : Registers) (q : Request) → NoneFails (needs D s q) → Wide q → Left s (answer D s q .after) (carried D s q)
   left s (Q.path x x′ sides l) h w = stays s (s .root) (h .0)
   left s (Q.witness x y m) h w = stays s (s .root) (h .0)
   left s (Q.join x y x′ y′ m1 z z′ m2) h w = stays s (s .root) (h .0)
@@ -62,7 +73,7 @@ module _ (D : List ℕ → Dig) (D32 : (l : List ℕ) → length (D l) ≡ 32) w
   left s (Q.clear A A′ old y y′ m) h w = raises s y′ (h .0) (h .1 .1 .1 .1 .1 .0)
   left s (Q.ask q A A′ r y m) h w = stays s (s .root) (h .0)
   left s (Q.askNone q) h w = stays s (s .root) (h .0)
-  left s (Q.unlock k) h w = record { small = λ c. c; keyed = λ k o. w; opened = refl }
+  left s (Q.unlock k) h w = record { small = λ c. c; keyed = λ k o. w; opened = refl; shut = λ o. refl }
 
   -- ── the side of the invariant that no memorandum bears on ──
 
@@ -139,6 +150,41 @@ module _ (D : List ℕ → Dig) (D32 : (l : List ℕ) → length (D l) ≡ 32) w
       by-sort (acceptance fs e h j n i) =
           let well = read-well (w .registers) (v .small) (v .keyed) (kindIn t) (asked t) h (passed fs) j in
           subst (λ (x : Told). Side k (landed D by w x)) (sym e) (accepted-side by k w (kindIn t) (asked t) fs n h well v)
+
+  -- ── a line at a module that is not open, and one at an open module ──
+
+  pub record AtShut (w : World) (t : Turn) : Type 0 where
+    pub forms-none : toldAt D w t .formed ≡ []
+    pub carries-none : toldAt D w t .refusal ≡ 0 → carried D (w .registers) (asked t) ≡ []
+
+  pub at-shut : (k : Dig) (w : World) (t : Turn) → Side k w → w .registers .opened ≡ false → AtShut w t
+  at-shut k w t v o = by-sort (sorted D (w .registers) (t .line) (t .space))
+    where
+      by-sort : Sorted D (w .registers) (t .line) (t .space) → AtShut w t
+      by-sort (refusal n fs z e (inl p)) =
+          record {
+            forms-none = ap (λ (a : Told). a .formed) e ∙ p;
+            carries-none = λ h. absurd (z (sym (ap (λ (a : Told). a .refusal) e) ∙ h));
+          }
+      by-sort (refusal n fs z e (inr r)) =
+          record {
+            forms-none = ap (λ (a : Told). a .formed) e
+                ∙ read-shut (w .registers) (v .small) (v .keyed) (kindIn t) (asked t) (r .0) (refused n fs) (r .1) o;
+            carries-none = λ h. absurd (z (sym (ap (λ (a : Told). a .refusal) e) ∙ h));
+          }
+      by-sort (acceptance fs e h j n i) =
+          record {
+            forms-none = ap (λ (a : Told). a .formed) e
+                ∙ read-shut (w .registers) (v .small) (v .keyed) (kindIn t) (asked t) h (passed fs) j o;
+            carries-none = λ z. left (w .registers) (asked t) n h .shut o;
+          }
+
+  pub stays-open : (w : World) (t : Turn) → w .registers .opened ≡ true → toldAt D w t .after .opened ≡ true
+  stays-open w t o = by-sort (sorted D (w .registers) (t .line) (t .space))
+    where
+      by-sort : Sorted D (w .registers) (t .line) (t .space) → toldAt D w t .after .opened ≡ true
+      by-sort (refusal n fs z e r) = ap (λ (a : Told). a .after .opened) e ∙ o
+      by-sort (acceptance fs e h j n i) = ap (λ (a : Told). a .after .opened) e ∙ left (w .registers) (asked t) n h .opened
 
   -- ── a run ──
 

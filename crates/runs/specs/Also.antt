@@ -1,8 +1,8 @@
 -- What else holds of runs: the root settles the list; both readings of memoranda come to one list, so that honest lines do for
--- the replay of runs what they do by their own reading; the endings are the only way out; and what is read by the earliest
--- line stays as that line meant it.
+-- the replay of runs what they do by their own reading; the endings are the only way out, and neither opening nor honest lines
+-- are one; and what is read by the earliest line stays as that line meant it.
 use mathlib.Core.Path.{_≡_}
-use mathlib.Core.Bool.{true}
+use mathlib.Core.Bool.{true, false}
 use mathlib.Core.List.{List, [], _∷_, _++_}
 use mathlib.Core.Logic.{_⊎_}
 use Prim.Native.Nat.{ℕ, _<_}
@@ -18,7 +18,7 @@ use Rattle.runs.specs.Endings.{Forged, Ending}
 use Rattle.runs.specs.Safety.{Stands, Safe}
 use Rattle.runs.specs.Wishes.{Wish, Legal}
 use Rattle.runs.specs.Outcomes.{itemsAfter}
-use Rattle.runs.specs.Liveness.{latestFirst, fed, turnsFor}
+use Rattle.runs.specs.Liveness.{latestFirst, fed, Honest, turnsFor}
 
 -- further lines, in order, behind those of a run, the latest first
 abbrev pub onwards : (further run : List Turn) → List Turn
@@ -50,13 +50,36 @@ module _ (D : List ℕ → Dig) where
   AnyForged k [] = ⊥
   AnyForged k (t ∷ ts) = Forged D (after D k ts) t ⊎ AnyForged k ts
 
+  -- An ending is just that: something shown among the strings formed, or a forged memorandum of some line.
+  pub record WaysOut (k : Dig) (ts : List Turn) : Type 0 where
+    pub only : Ending D k ts → Shown (after D k ts .formed) ⊎ AnyForged k ts
+    pub each : Shown (after D k ts .formed) ⊎ AnyForged k ts → Ending D k ts
+
+  abbrev pub EndingIs : Type 0
+  EndingIs = (k : Dig) (ts : List Turn) → WaysOut k ts
+
   -- without a collision or an all-zero digest among the strings formed, and without a forged memorandum, a run is safe
   abbrev pub NoOtherWayOut : Type 0
   NoOtherWayOut =
       (k : Dig) (ts : List Turn) → (Shown (after D k ts .formed) → ⊥) → (AnyForged k ts → ⊥) → Safe D k ts
 
-  -- Granted wishes seen by the replay of runs: behind the honest lines the run has ended, or its own list is the one wanted and
-  -- a tree stands for it.
+  -- A run that is not open has not ended, and the line that opens it, or any other line at a module that is not open, does not
+  -- end it: so no run of one line has ended, whatever the line is.
+  abbrev pub NotEndedBeforeOpen : Type 0
+  NotEndedBeforeOpen = (k : Dig) (ts : List Turn) → after D k ts .registers .opened ≡ false → Ending D k ts → ⊥
+
+  abbrev pub NotEndedByOpening : Type 0
+  NotEndedByOpening =
+      (k : Dig) (ts : List Turn) (t : Turn) → after D k ts .registers .opened ≡ false → Ending D k (t ∷ ts) → ⊥
+
+  -- Honest lines end no run: where one has ended behind them, it had before, or something can be shown among the strings.
+  abbrev pub HonestEndsNothing : Type 0
+  HonestEndsNothing =
+      (k : Dig) (ts us : List Turn) → Honest D (latestFirst (after D k ts)) us → Ending D k (onwards us ts)
+      → Ending D k ts ⊎ Shown (after D k (onwards us ts) .formed)
+
+  -- Granted wishes seen by the replay of runs: the run had ended before the honest lines, or among the strings something can be
+  -- shown, or behind them the run's own list is the one wanted and a tree stands for it.
   pub record Replayed (k : Dig) (ts us : List Turn) (l : Items) : Type 0 where
     pub items : after D k (onwards us ts) .items ≡ l
     pub stands : Stands D (after D k (onwards us ts))
@@ -66,7 +89,9 @@ module _ (D : List ℕ → Dig) where
       (k : Dig) (ts : List Turn) → after D k ts .registers .opened ≡ true → after D k ts .registers .counter .0 < top
       → (t : Stands D (after D k ts)) (x : Wish) → Legal (after D k ts .items) x
       → (let us = turnsFor D (after D k ts) (t .tree) x in
-      Ending D k (onwards us ts) ⊎ Replayed k ts us (itemsAfter (after D k ts .registers) (after D k ts .items) x))
+      Ending D k ts
+      ⊎ (Shown (after D k (onwards us ts) .formed)
+      ⊎ Replayed k ts us (itemsAfter (after D k ts .registers) (after D k ts .items) x)))
 
   -- "A memorandum stands for what the earliest line that issued it does": whatever lines follow
   abbrev pub EarliestStays : Type 0
@@ -74,16 +99,15 @@ module _ (D : List ℕ → Dig) where
       (k : Dig) (ts : List Turn) (t : Turn) (m : Dig) → isIssued m (after D k ts .book) ≡ true
       → standsFor m (after D k (t ∷ ts) .book) ≡ standsFor m (after D k ts .book)
 
-  -- an ending takes something that a line did: before the first one there is none
-  abbrev pub NotEndedAtFirst : Type 0
-  NotEndedAtFirst = (k : Dig) → Ending D k [] → ⊥
-
   pub record AlsoFor : Type 0 where
     pub root-settles : RootSettlesList
     pub readings-agree : ReadingsAgree
+    pub ending-is : EndingIs
     pub no-other-way-out : NoOtherWayOut
+    pub not-ended-before-open : NotEndedBeforeOpen
+    pub not-ended-by-opening : NotEndedByOpening
+    pub honest-ends-nothing : HonestEndsNothing
     pub earliest-stays : EarliestStays
-    pub not-ended-at-first : NotEndedAtFirst
 
 -- for SHA-256, and for any digest of 32 bytes
 pub record Also : Type 0 where
