@@ -2,6 +2,7 @@ pub mod ByHand
 pub mod Ceilings
 pub mod Early
 pub mod Encoding
+pub mod Findings
 pub mod Frames
 pub mod Older
 pub mod Room

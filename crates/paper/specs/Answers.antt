@@ -4,14 +4,16 @@ use mathlib.Core.Bool.{true}
 use mathlib.Core.List.{List, [], _∷_, _++_}
 use Prim.Native.Nat.{ℕ, _+_}
 use lib.Dec.{eqb}
+use lib.ListN.{getD, take, drop}
 use Rattle.seqs.specs.Choose.{pick}
-use Rattle.seqs.specs.Bytes.{be64}
+use Rattle.seqs.specs.Bytes.{be64, numberOf}
+use Rattle.paper.specs.declared.Item.{Item}
 use Rattle.paper.specs.declared.Record.{Record}
 use Rattle.paper.specs.declared.Registers.{Registers}
 use Rattle.paper.specs.declared.Finding.{Finding}
 use Rattle.paper.specs.declared.Finding.the-variants.{Recorded, Listed, Gap}
 use Rattle.paper.specs.Strings.{Dig, nought, Memo, u1, v1, u2, ei, Str, leaf, nums, numbers, spread, blank, parentForms, digest, memorandum, memorandumForms, H, foldUp, foldForms}
-use Rattle.paper.specs.Requests.{Request, path, witness, join, pair, raise, swap, first, place, turn, chain, adopt, setTo, clear, ask, askNone, unlock}
+use Rattle.paper.specs.Requests.{Request, path, witness, join, pair, raise, swap, first, place, turn, chain, adopt, setTo, clear, ask, askNone, unlock, recordIn}
 use Rattle.paper.specs.Refusals.{nextRecord, clearedRecord}
 
 -- ── what a line does beyond its reply ──
@@ -47,6 +49,15 @@ abbrev pub findingBytes : Finding → List ℕ
 findingBytes (Recorded A r) = 1 ∷ spread (nums (A .0 ∷ numbers r))
 findingBytes (Listed A) = 2 ∷ spread (nums (A .0 ∷ []))
 findingBytes (Gap A A′) = 3 ∷ spread (nums (A .0 ∷ A′ .0 ∷ []))
+
+-- and back: the finding that some bytes show, by the same numbers; of numbers that 8 bytes hold, what was written
+-- (`proofs/Findings`)
+unfoldable pub findingIn : List ℕ → Finding
+findingIn l =
+    let first = getD l 0 0 in
+    let A : Item = record { 0 = numberOf (take 8 (drop 1 l)) } in
+    pick (eqb first 1) (Recorded A (recordIn (drop 9 l)))
+    (pick (eqb first 2) (Listed A) (Gap A (record { 0 = numberOf (take 8 (drop 9 l)) })))
 
 -- ── registers ──
 

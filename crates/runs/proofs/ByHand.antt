@@ -1,17 +1,33 @@
 -- The rows by hand: what is in a list of two and in its ring, and arithmetic.
 use mathlib.Core.Path.{_≡_, refl, sym, ap, _∙_}
-use mathlib.Core.Bool.{true≢false}
-use mathlib.Core.List.{List, List·Memᴰ·head, List·Memᴰ·tail}
+use mathlib.Core.Bool.{true, false, true≢false}
+use mathlib.Core.List.{List, [], _∷_, _++_, append-nil, List·Memᴰ·head, List·Memᴰ·tail}
 use mathlib.Core.Logic.{_≢_}
 use Prim.Native.Nat.{ℕ}
 use native.Mathlib.Omega.{arith}
-use Rattle.seqs.specs.Choose.{_and_}
+use lib.Dec.{eqb}
+use lib.ListN.{length}
+use Rattle.seqs.specs.Choose.{either, _and_}
+use Rattle.seqs.specs.Bytes.{Bytes, be64, same-refl}
+use Rattle.hex.specs.Hex.{digitsOf}
 use Rattle.paper.specs.declared.Record.{Record}
-use Rattle.paper.specs.Strings.{Dig, emptyRecord, blank, inGap}
+use Rattle.paper.specs.declared.Registers.{Registers}
+use Rattle.paper.specs.Strings.{Dig, v1, emptyRecord, blank, malformed, inGap, digest, memorandum}
+use Rattle.paper.specs.Requests as Q
+use Rattle.paper.specs.Refusals.{replyRoom, leafOf, needs}
+use Rattle.paper.specs.Answers.{findingOf, findingBytes}
+use Rattle.paper.specs.Module.{Told, answerTo}
 use Rattle.rings.specs.Trees.{Leaf, points}
 use Rattle.rings.specs.Lists.{Item, item, Listed, Unlisted}
+use Rattle.runs.specs.Run.{World}
 use Rattle.runs.specs.Safety.{Neighbours}
-use Rattle.runs.specs.ByHand.{rotor, small, wishes, findings, EveryRow, ByHand}
+use Rattle.runs.specs.Frames.{recordBytes}
+use Rattle.runs.specs.ByHand.{rotor, small, wishes, findings, EveryRow, questions, EveryReply, ByHand}
+use Rattle.runs.proofs.Widths.{Small, SmallRecord}
+use Rattle.runs.proofs.Parts.{IsDigest}
+use Rattle.runs.proofs.Accepted.{NoneFails}
+use Rattle.runs.proofs.Frames.{Sendable}
+use Rattle.runs.proofs.Fed.{told-is}
 
 -- ── what is listed ──
 
@@ -148,5 +164,44 @@ module _ (D : List ℕ → Dig) where
       and (λ h. h .1 .1 .0 refl)
       and tt
 
+-- ── replies ──
+
+small-rotor : SmallRecord rotor
+small-rotor = (omega arith, omega arith, omega arith, omega arith)
+
+small-none : SmallRecord emptyRecord
+small-none = (omega arith, omega arith, omega arith, omega arith)
+
+module _ (D : List ℕ → Dig) (D32 : (l : List ℕ) → length (D l) ≡ 32) (DB : (l : List ℕ) → Bytes (D l)) where
+  abbrev frame : (q A A′ : ℕ) → Record → (rest : List ℕ) → List ℕ
+  frame q A A′ r rest = 0x0e ∷ (be64 q ++ (be64 A ++ (be64 A′ ++ (recordBytes r ++ rest))))
+
+  -- a question whose root and memorandum fit is answered by the finding that it asks for
+  reply : (q A A′ : ℕ) (r : Record) (s : Registers) → s .opened ≡ true → length (s .root) ≡ 32 → Bytes (s .root)
+      → Small q → Small A → Small A′ → SmallRecord r → eqb q 0 ≡ false → eqb A 0 ≡ false → eqb A′ 0 ≡ false → malformed r ≡ false
+      → either (eqb q A) (inGap q A A′) ≡ true
+      → (let m = memorandum D (v1 (digest D (leafOf D A A′ r)) (s .root)) (s .secret) in
+      answerTo D s (digitsOf (frame q A A′ r (s .root ++ m))) replyRoom .says ≡ 0x8e ∷ findingBytes (findingOf q A A′ r))
+  reply q A A′ r s o n b hq hA hA′ hr q0 A0 A′0 ok near =
+      let w : World = record { registers = s; formed = []; book = []; items = []; changed = 0 } in
+      let t = v1 (digest D (leafOf D A A′ r)) (s .root) in
+      let m = memorandum D t (s .secret) in
+      let a = Q.ask q A A′ r (s .root) m in
+      let ok-y : IsDigest (s .root) = record { wide = n; bytes = b } in
+      let ok-m : IsDigest m = record { wide = D32 _; bytes = DB _ } in
+      let sendable : Sendable a = (hq, hA, hA′, hr, (ok-y, (ok-m, tt))) in
+      let passes : NoneFails (needs D s a) =
+      rw o refl and q0 and A0 and A′0 and ok and rw near refl and rw (same-refl m) refl and rw (same-refl (s .root)) refl and tt in
+      ap (λ (x : List ℕ). answerTo D s (digitsOf (frame q A A′ r (s .root ++ x))) replyRoom .says) (sym (append-nil m))
+      ∙ ap (λ (x : Told). x .says) (told-is D w a sendable passes)
+
+  replies : EveryReply D questions
+  unfolding be64 findingOf malformed inGap
+  replies =
+      (λ s o n b. reply 9 9 5 rotor s o n b (omega arith) (omega arith) (omega arith) small-rotor refl refl refl refl refl)
+      and (λ s o n b. reply 5 5 9 emptyRecord s o n b (omega arith) (omega arith) (omega arith) small-none refl refl refl refl refl)
+      and (λ s o n b. reply 7 5 9 emptyRecord s o n b (omega arith) (omega arith) (omega arith) small-none refl refl refl refl refl)
+      and tt
+
 pub by-hand : ByHand
-by-hand = record { legal = legal; true-findings = true-findings }
+by-hand = record { legal = legal; true-findings = true-findings; replies = replies }

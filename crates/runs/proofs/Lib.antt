@@ -14,6 +14,7 @@
 -- Carried     so does every one that an accepted request carries, or it was forged
 -- Safe        the invariant, and that an accepted line of each kind keeps it
 -- Sizes       what is listed fits lines, in a run and after a legal change
+-- Replies     what the reply to an accepted question says, by its bytes
 -- Runs        any line keeps it or ends the run: `safety`
 -- Readings    memoranda read by the earliest and by the last line that issued them come to one list
 -- Ended       what an ending is; none before the module is open or by opening it, and none by honest lines
@@ -48,6 +49,7 @@ pub mod Sides
 pub mod Carried
 pub mod Safe
 pub mod Sizes
+pub mod Replies
 pub mod Runs
 pub mod Readings
 pub mod Ended

@@ -1,6 +1,6 @@
 -- Any line keeps the invariant or ends the run. Hence, after any lines, a run has ended or is safe: `safety` (demand 3, first
 -- half).
-use mathlib.Core.Path.{_≡_, refl, sym, ap, subst, _∙_}
+use mathlib.Core.Path.{_≡_, refl, sym, subst}
 use mathlib.Core.List.{List, [], _∷_, _++_, Memᴰ·append-left, Memᴰ·append-right}
 use mathlib.Core.Logic.{_⊎_, inl, inr}
 use Prim.Native.Nat.{ℕ, _+_}
@@ -18,11 +18,12 @@ use Rattle.rings.proofs.Endings.{fault-shows}
 use Rattle.rings.proofs.InPaper.{holds-ring}
 use Rattle.runs.specs.Run.{Turn, Reading, ofRuns, World, start, toldAt, landed, after}
 use Rattle.runs.specs.Endings.{Ending, collision, zero, forged, earlier}
-use Rattle.runs.specs.Safety.{Stands, TrueAnswer, LegalEffect, AllFair, SafeOrEnded, Safety}
+use Rattle.runs.specs.Safety.{Stands, LegalEffect, AllFair, SafeOrEnded, Safety}
 use Rattle.runs.proofs.Lines.{asked, kindIn, Sorted, refusal, acceptance, sorted}
 use Rattle.runs.proofs.Formed.{Well, well-at}
 use Rattle.runs.proofs.Carried.{Forgery, Given}
-use Rattle.runs.proofs.Safe.{Core, kept-core, accepted}
+use Rattle.runs.proofs.Safe.{Core, TrueFor, kept-core, accepted}
+use Rattle.runs.proofs.Replies.{true-answer}
 use Rattle.runs.proofs.Sides.{side}
 use Rattle.runs.proofs.Sizes.{listed-fits}
 
@@ -32,7 +33,7 @@ module _ (D : List ℕ → Dig) (D32 : (l : List ℕ) → length (D l) ≡ 32) w
   abbrev pub Out : Reading → World → Request → Told → Type 0
   Out by w q a =
       (Fault (digest D) (a .formed ++ w .formed) ⊎ ((a .refusal ≡ 0) × Forgery D w q))
-      ⊎ (Core D D32 (landed D by w a) × (a .refusal ≡ 0 → TrueAnswer D q (w .items)) × LegalEffect D w (a .effect))
+      ⊎ (Core D D32 (landed D by w a) × (a .refusal ≡ 0 → TrueFor D q (w .items)) × LegalEffect D w (a .effect))
 
   -- ── any line ──
 
@@ -53,16 +54,6 @@ module _ (D : List ℕ → Dig) (D32 : (l : List ℕ) → length (D l) ≡ 32) w
         }
         r ← instead (λ x. elim x [ inl f ↦ inl f | inr f ↦ inr (refl, f) ]) (accepted D D32 by w (kindIn t) fs c (asked t) given)
         inr (r .0, (λ z. r .1), r .2))
-
-  -- an accepted line's reply is its kind plus 80 and what its answer lists
-  replied : (w : World) (t : Turn) → toldAt D w t .refusal ≡ 0
-      → toldAt D w t .says ≡ (0x80 + kindIn t) ∷ answer D (w .registers) (asked t) .lists
-  replied w t h = by-sort (sorted D (w .registers) (t .line) (t .space))
-    where
-      by-sort : Sorted D (w .registers) (t .line) (t .space)
-          → toldAt D w t .says ≡ (0x80 + kindIn t) ∷ answer D (w .registers) (asked t) .lists
-      by-sort (refusal n fs z e r) = absurd (z (sym (ap (λ (a : Told). a .refusal) e) ∙ h))
-      by-sort (acceptance fs e j k n i) = ap (λ (a : Told). a .says) e
 
   -- ── the run ──
 
@@ -89,7 +80,7 @@ module _ (D : List ℕ → Dig) (D32 : (l : List ℕ) → length (D l) ≡ 32) w
   run k (t ∷ ts) = do
     x ← instead (earlier t) (run k ts)
     y ← instead ends (line-out ofRuns (after D k ts) t (x .0))
-    inr (y .0, (record { true-answer = y .1; replied = replied (after D k ts) t; legal = y .2 }, x .1))
+    inr (y .0, (record { true-answer = λ z. true-answer D (after D k ts) t z (y .1 z); legal = y .2 }, x .1))
     where
       ends : Fault (digest D) (after D k (t ∷ ts) .formed) ⊎ ((toldAt D (after D k ts) t .refusal ≡ 0) × Forgery D (after D k ts)
           (asked t)) → Ending D k (t ∷ ts)

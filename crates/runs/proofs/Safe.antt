@@ -32,7 +32,7 @@ use Rattle.rings.proofs.TreeKinds as T
 use Rattle.rings.proofs.RingKinds as R
 use Rattle.rings.proofs.InPaper as P
 use Rattle.runs.specs.Run.{Reading, Items, standsFor, meaning, World, landed}
-use Rattle.runs.specs.Safety.{TrueFinding, TrueAnswer, LegalEffect}
+use Rattle.runs.specs.Safety.{TrueFinding, LegalEffect}
 use Rattle.runs.proofs.Book.{entered-none, Book, book-more, book-enter}
 use Rattle.runs.proofs.Accepted.{opposite-false}
 use Rattle.runs.proofs.Carried as C
@@ -49,6 +49,26 @@ blank-empty r e ok = by-known (known-by (λ s. []) [] r ok no-forms)
     by-known : Known (λ s. []) [] r → r ≡ emptyRecord
     by-known (known-empty p) = p
     by-known (known-recorded n m) = absurd (n (eqb-true (r .revision .0) 0 e))
+
+module _ (D : List ℕ → Dig) where
+  -- the answer to a request is true of the list
+  abbrev pub TrueFor : Request → Items → Type 0
+  TrueFor (Q.path x x′ sides s) l = Unit {0}
+  TrueFor (Q.witness x y m) l = Unit {0}
+  TrueFor (Q.join x y x′ y′ m1 z z′ m2) l = Unit {0}
+  TrueFor (Q.pair x1 y x1′ y′ m1 x2 z x2′ z′ m2) l = Unit {0}
+  TrueFor (Q.raise x1 x2 y x1′ x2′ y′ m1 z z′ m2) l = Unit {0}
+  TrueFor (Q.swap x1 x2 y y′ m) l = Unit {0}
+  TrueFor (Q.first A) l = Unit {0}
+  TrueFor (Q.place A A′ B′ ω y y′ m) l = Unit {0}
+  TrueFor (Q.turn x y m) l = Unit {0}
+  TrueFor (Q.chain x y m1 z m2) l = Unit {0}
+  TrueFor (Q.adopt y y′ m) l = Unit {0}
+  TrueFor (Q.setTo A A′ old v y y′ m) l = Unit {0}
+  TrueFor (Q.clear A A′ old y y′ m) l = Unit {0}
+  TrueFor (Q.ask q A A′ r y m) l = TrueFinding D q (findingOf q A A′ r) l
+  TrueFor (Q.askNone q) l = l ≡ []
+  TrueFor (Q.unlock k) l = Unit {0}
 
 module _ (D : List ℕ → Dig) (D32 : (l : List ℕ) → length (D l) ≡ 32) where
   -- the root stands for the list, and the book is backed
@@ -114,7 +134,7 @@ module _ (D : List ℕ → Dig) (D32 : (l : List ℕ) → length (D l) ≡ 32) w
 
     -- what it comes to
     abbrev Comes : Request → Type 0
-    Comes q = Or D w (G q) q (Core (landed D by w (a q)) × TrueAnswer D q (w .items) × LegalEffect D w (a q .effect))
+    Comes q = Or D w (G q) q (Core (landed D by w (a q)) × TrueFor D q (w .items) × LegalEffect D w (a q .effect))
 
     backed : (q : Request) → Book D (G q) (w .book)
     backed q = book-more D (w .book) (more (a q) w) (v .book)
@@ -133,7 +153,7 @@ module _ (D : List ℕ → Dig) (D32 : (l : List ℕ) → length (D l) ≡ 32) w
 
     -- a line that issues a memorandum whose meaning is known; it is the first string that its answer forms
     issued : {q : Request} (g : GivenTo q) {t : Memo} {c : Change} {l : List Str} → answer D s q .after ≡ s
-        → answer D s q .effect ≡ issues t c → answer D s q .forms ≡ memo t key ∷ l → TrueAnswer D q (w .items)
+        → answer D s q .effect ≡ issues t c → answer D s q .forms ≡ memo t key ∷ l → TrueFor D q (w .items)
         → Means dig (G q) t (meaning (w .book) c) → Comes q
     issued {q} g {t} e₁ e₂ e₃ tr m =
         inr (
@@ -157,7 +177,7 @@ module _ (D : List ℕ → Dig) (D32 : (l : List ℕ) → length (D l) ≡ 32) w
         → malformed old ≡ false → malformed new ≡ false
         → noneFits D key (changeSays D A A′ old new y y′ ∷ []) m ≡ false → opposite (same y (s .root)) ≡ false
         → answer D s q .after .root ≡ y′ → answer D s q .after .counter .0 ≡ s .counter .0 + 1
-        → answer D s q .effect ≡ changes A new → TrueAnswer D q (w .items) → (blank new ≡ true → blank old ≡ false) → Comes q
+        → answer D s q .effect ≡ changes A new → TrueFor D q (w .items) → (blank new ≡ true → blank old ≡ false) → Comes q
     changed {q} g A A′ old new y y′ m i forms ok ok′ fit r e₁ e₂ e₃ tr full = do
       let t = changeSays D A A′ old new y y′
       u ← C.means D w (G q) (backed q) q t m i (forms _ (Memᴰ·append-right (changeForms D A A′ old new) at0)) fit

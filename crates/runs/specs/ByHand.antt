@@ -1,12 +1,21 @@
--- What is legal and what is true of one short list, row by row as a table under one statement, `ByHand`: a definition of `Legal`
--- or of `TrueFinding` made narrower or wider breaks a row. `proofs/ByHand` shows it.
-use mathlib.Core.List.{List, [], _∷_}
+-- What is legal and what is true of one short list, row by row, and the replies to three questions, byte by byte, as tables under
+-- one statement, `ByHand`: a definition of `Legal` or of `TrueFinding` made narrower or wider breaks a row. `proofs/ByHand`
+-- shows it.
+use mathlib.Core.Path.{_≡_}
+use mathlib.Core.Bool.{true}
+use mathlib.Core.List.{List, [], _∷_, _++_}
 use Prim.Native.Nat.{ℕ, _-_, _^_}
+use lib.ListN.{length}
+use Rattle.seqs.specs.Bytes.{Bytes}
+use Rattle.hex.specs.Hex.{digitsOf}
 use Rattle.paper.specs.declared.Record.{Record}
+use Rattle.paper.specs.declared.Registers.{Registers}
 use Rattle.paper.specs.declared.Values.{Values}
 use Rattle.paper.specs.declared.Finding.{Finding}
 use Rattle.paper.specs.declared.Finding.the-variants.{Recorded, Listed as Empty, Gap}
-use Rattle.paper.specs.Strings.{Dig, emptyRecord}
+use Rattle.paper.specs.Strings.{Dig, v1, emptyRecord, digest, memorandum}
+use Rattle.paper.specs.Refusals.{replyRoom, leafOf}
+use Rattle.paper.specs.Module.{answerTo}
 use Rattle.rings.specs.Lists.{item}
 use Rattle.runs.specs.Run.{Items}
 use Rattle.runs.specs.Safety.{TrueFinding}
@@ -126,6 +135,65 @@ abbrev pub EveryRow : (D : List ℕ → Dig) → List Row → Type 0
 EveryRow D [] = Unit {0}
 EveryRow D (r ∷ l) = Says D r × EveryRow D l
 
+-- ── replies as bytes ──
+
+-- A question put to an open module as a line: its frame written out up to its root y, which is the module's, and its memorandum,
+-- which is V1(leaf,y) for a leaf of A, A' and r; and every byte of the reply.
+pub record Question : Type 0 where
+  pub A : ℕ
+  pub A′ : ℕ
+  pub r : Record
+  pub frame : List ℕ
+  pub says : List ℕ
+
+-- eight bytes, the first five of them 0
+abbrev eight : (a b c : ℕ) → List ℕ
+eight a b c = 0x00 ∷ 0x00 ∷ 0x00 ∷ 0x00 ∷ 0x00 ∷ a ∷ b ∷ c ∷ []
+
+-- [3, 68900, 1250, 3], and no record
+abbrev rotorBytes : List ℕ
+rotorBytes = eight 0x00 0x00 0x03 ++ eight 0x01 0x0d 0x24 ++ eight 0x00 0x04 0xe2 ++ eight 0x00 0x00 0x03
+
+abbrev noRecord : List ℕ
+noRecord = eight 0x00 0x00 0x00 ++ eight 0x00 0x00 0x00 ++ eight 0x00 0x00 0x00 ++ eight 0x00 0x00 0x00
+
+-- "1, A, record; 2, A (listed, no record; q = A); 3, A, A' (q in the gap)": asked on 9 by the leaf of 9 and 5, on 5 and on 7 by
+-- the leaf of 5 and 9
+abbrev pub questions : List Question
+questions =
+    record {
+      A = 9;
+      A′ = 5;
+      r = rotor;
+      frame = 0x0e ∷ eight 0x00 0x00 0x09 ++ eight 0x00 0x00 0x09 ++ eight 0x00 0x00 0x05 ++ rotorBytes;
+      says = 0x8e ∷ 0x01 ∷ eight 0x00 0x00 0x09 ++ rotorBytes;
+    }
+    ∷ record {
+      A = 5;
+      A′ = 9;
+      r = emptyRecord;
+      frame = 0x0e ∷ eight 0x00 0x00 0x05 ++ eight 0x00 0x00 0x05 ++ eight 0x00 0x00 0x09 ++ noRecord;
+      says = 0x8e ∷ 0x02 ∷ eight 0x00 0x00 0x05;
+    }
+    ∷ record {
+      A = 5;
+      A′ = 9;
+      r = emptyRecord;
+      frame = 0x0e ∷ eight 0x00 0x00 0x07 ++ eight 0x00 0x00 0x05 ++ eight 0x00 0x00 0x09 ++ noRecord;
+      says = 0x8e ∷ 0x03 ∷ eight 0x00 0x00 0x05 ++ eight 0x00 0x00 0x09;
+    }
+    ∷ []
+
+abbrev pub Replied : (D : List ℕ → Dig) → Question → Type 0
+Replied D x = (s : Registers) → s .opened ≡ true → length (s .root) ≡ 32 → Bytes (s .root)
+    → (let m = memorandum D (v1 (digest D (leafOf D (x .A) (x .A′) (x .r))) (s .root)) (s .secret) in
+    answerTo D s (digitsOf (x .frame ++ (s .root ++ m))) replyRoom .says ≡ x .says)
+
+abbrev pub EveryReply : (D : List ℕ → Dig) → List Question → Type 0
+EveryReply D [] = Unit {0}
+EveryReply D (x ∷ l) = Replied D x × EveryReply D l
+
 pub record ByHand : Type 0 where
   pub legal : (D : List ℕ → Dig) → EveryRow D wishes
   pub true-findings : (D : List ℕ → Dig) → EveryRow D findings
+  pub replies : (D : List ℕ → Dig) → ((l : List ℕ) → length (D l) ≡ 32) → ((l : List ℕ) → Bytes (D l)) → EveryReply D questions

@@ -3,16 +3,17 @@ use mathlib.Core.Path.{_≡_}
 use mathlib.Core.Bool.{true, false}
 use mathlib.Core.List.{List, [], _∷_, List·Memᴰ}
 use mathlib.Core.Logic.{_⊎_}
-use Prim.Native.Nat.{ℕ, _+_}
-use lib.ListN.{length}
+use Prim.Native.Nat.{ℕ}
+use lib.ListN.{length, take, drop}
+use Rattle.seqs.specs.Bytes.{be64, numberOf}
 use Rattle.sha256.specs.Hash.{sha256}
 use Rattle.hex.specs.Hex.{bytesOf}
 use Rattle.paper.specs.declared.Record.{Record}
 use Rattle.paper.specs.declared.Finding.{Finding}
 use Rattle.paper.specs.declared.Finding.the-variants.{Recorded, Listed as Empty, Gap}
 use Rattle.paper.specs.Strings.{Dig, emptyRecord, blank, inGap, recordHash}
-use Rattle.paper.specs.Requests.{Request, path, witness, join, pair, raise, swap, first, place, turn, chain, adopt, setTo, clear, ask, askNone, unlock, kindOf, requestOf}
-use Rattle.paper.specs.Answers.{Effect, none′, issues, adopts, changes, findingOf, answer}
+use Rattle.paper.specs.Requests.{kindOf}
+use Rattle.paper.specs.Answers.{Effect, none′, issues, adopts, changes, findingBytes, findingIn}
 use Rattle.paper.specs.Module.{unopened}
 use Rattle.rings.specs.Trees.{Tree, points, leaves, hashOf, Permuted}
 use Rattle.rings.specs.Lists.{Ascending, Listed, Unlisted, ring}
@@ -20,6 +21,10 @@ use Rattle.rings.specs.Changes.{LegalSteps}
 use Rattle.runs.specs.Run.{Turn, Items, standsFor, World, toldAt, after}
 use Rattle.runs.specs.Sizes.{ItemsFit}
 use Rattle.runs.specs.Endings.{Ending}
+
+-- the number q that a question's frame carries behind its kind
+abbrev pub questionIn : List ℕ → ℕ
+questionIn f = numberOf (take 8 (drop 1 f))
 
 module _ (D : List ℕ → Dig) where
   -- "the root is that of a tree whose leaves form one ascending ring of distinct item numbers and hold exactly the list
@@ -42,23 +47,12 @@ module _ (D : List ℕ → Dig) where
   TrueFinding q (Empty A) l = (q ≡ A .0) × Listed (A .0) emptyRecord l
   TrueFinding q (Gap A A′) l = (inGap q (A .0) (A′ .0) ≡ true) × Unlisted q l × Neighbours (A .0) (A′ .0) l
 
-  abbrev pub TrueAnswer : Request → Items → Type 0
-  TrueAnswer (path x x′ sides s) l = Unit {0}
-  TrueAnswer (witness x y m) l = Unit {0}
-  TrueAnswer (join x y x′ y′ m1 z z′ m2) l = Unit {0}
-  TrueAnswer (pair x1 y x1′ y′ m1 x2 z x2′ z′ m2) l = Unit {0}
-  TrueAnswer (raise x1 x2 y x1′ x2′ y′ m1 z z′ m2) l = Unit {0}
-  TrueAnswer (swap x1 x2 y y′ m) l = Unit {0}
-  TrueAnswer (first A) l = Unit {0}
-  TrueAnswer (place A A′ B′ ω y y′ m) l = Unit {0}
-  TrueAnswer (turn x y m) l = Unit {0}
-  TrueAnswer (chain x y m1 z m2) l = Unit {0}
-  TrueAnswer (adopt y y′ m) l = Unit {0}
-  TrueAnswer (setTo A A′ old v y y′ m) l = Unit {0}
-  TrueAnswer (clear A A′ old y y′ m) l = Unit {0}
-  TrueAnswer (ask q A A′ r y m) l = TrueFinding q (findingOf q A A′ r) l
-  TrueAnswer (askNone q) l = l ≡ []
-  TrueAnswer (unlock k) l = Unit {0}
+  -- An accepted question and its reply, as bytes: the line's frame f and what the reply says. An ask is answered by 8e and a finding, and nothing more, that is true of q; an ask of none by 8f and q,
+  -- where nothing is listed.
+  pub record TrueAnswer (f says : List ℕ) (l : Items) : Type 0 where
+    pub ask : kindOf f ≡ 0x0e
+        → (says ≡ 0x8e ∷ findingBytes (findingIn (drop 1 says))) × TrueFinding (questionIn f) (findingIn (drop 1 says)) l
+    pub ask-of-none : kindOf f ≡ 0x0f → (says ≡ 0x8f ∷ be64 (questionIn f)) × (l ≡ [])
 
   -- each adopted change was legal where it was adopted; a record changes only at a listed item, and is emptied only where
   -- there was one
@@ -70,11 +64,7 @@ module _ (D : List ℕ → Dig) where
 
   -- one line at its world
   pub record Fair (w : World) (t : Turn) : Type 0 where
-    pub true-answer : toldAt D w t .refusal ≡ 0 → TrueAnswer (requestOf (bytesOf (t .line))) (w .items)
-    -- and that answer is what the reply's bytes list: for an ask, the finding
-    pub replied : toldAt D w t .refusal ≡ 0
-        → toldAt D w t .says
-        ≡ (0x80 + kindOf (bytesOf (t .line))) ∷ answer D (w .registers) (requestOf (bytesOf (t .line))) .lists
+    pub true-answer : toldAt D w t .refusal ≡ 0 → TrueAnswer (bytesOf (t .line)) (toldAt D w t .says) (w .items)
     pub legal : LegalEffect w (toldAt D w t .effect)
 
   -- every line so far
