@@ -23,7 +23,7 @@ use Rattle.runs.specs.Run.{World}
 use Rattle.runs.specs.Safety.{Neighbours}
 use Rattle.runs.specs.Frames.{recordBytes}
 use Rattle.runs.specs.ByHand.{rotor, small, wishes, findings, EveryRow, questions, EveryReply, ByHand}
-use Rattle.runs.proofs.Widths.{Small, SmallRecord}
+use Rattle.runs.specs.Sizes.{InEightBytes, RecordFits}
 use Rattle.runs.proofs.Parts.{IsDigest}
 use Rattle.runs.proofs.Accepted.{NoneFails}
 use Rattle.runs.proofs.Frames.{Sendable}
@@ -166,10 +166,10 @@ module _ (D : List ℕ → Dig) where
 
 -- ── replies ──
 
-small-rotor : SmallRecord rotor
+small-rotor : RecordFits rotor
 small-rotor = (omega arith, omega arith, omega arith, omega arith)
 
-small-none : SmallRecord emptyRecord
+small-none : RecordFits emptyRecord
 small-none = (omega arith, omega arith, omega arith, omega arith)
 
 module _ (D : List ℕ → Dig) (D32 : (l : List ℕ) → length (D l) ≡ 32) (DB : (l : List ℕ) → Bytes (D l)) where
@@ -178,7 +178,7 @@ module _ (D : List ℕ → Dig) (D32 : (l : List ℕ) → length (D l) ≡ 32) (
 
   -- a question whose root and memorandum fit is answered by the finding that it asks for
   reply : (q A A′ : ℕ) (r : Record) (s : Registers) → s .opened ≡ true → length (s .root) ≡ 32 → Bytes (s .root)
-      → Small q → Small A → Small A′ → SmallRecord r → eqb q 0 ≡ false → eqb A 0 ≡ false → eqb A′ 0 ≡ false → malformed r ≡ false
+      → InEightBytes q → InEightBytes A → InEightBytes A′ → RecordFits r → eqb q 0 ≡ false → eqb A 0 ≡ false → eqb A′ 0 ≡ false → malformed r ≡ false
       → either (eqb q A) (inGap q A A′) ≡ true
       → (let m = memorandum D (v1 (digest D (leafOf D A A′ r)) (s .root)) (s .secret) in
       answerTo D s (digitsOf (frame q A A′ r (s .root ++ m))) replyRoom .says ≡ 0x8e ∷ findingBytes (findingOf q A A′ r))

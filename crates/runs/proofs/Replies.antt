@@ -20,7 +20,8 @@ use Rattle.paper.proofs.Findings.{SoundFinding, finding-back}
 use Rattle.runs.specs.Run.{Turn, Items, World, toldAt}
 use Rattle.runs.specs.Safety.{questionIn, TrueFinding, TrueAnswer}
 use Rattle.runs.proofs.Lines.{asked, kindIn, Sorted, refusal, acceptance, sorted}
-use Rattle.runs.proofs.Widths.{Small, SmallRecord, Wide}
+use Rattle.runs.specs.Sizes.{InEightBytes, RecordFits}
+use Rattle.runs.proofs.Widths.{Wide}
 use Rattle.runs.proofs.Safe.{TrueFor}
 
 -- ── the request of a frame, by its kind ──
@@ -56,7 +57,7 @@ ask-none-in f e = ap (λ (k : ℕ). askedBy k f) e
 
 -- ── findings of a request that was read ──
 
-sound-finding : (q A A′ : ℕ) (r : Record) → Small A → Small A′ → SmallRecord r → SoundFinding (findingOf q A A′ r)
+sound-finding : (q A A′ : ℕ) (r : Record) → InEightBytes A → InEightBytes A′ → RecordFits r → SoundFinding (findingOf q A A′ r)
 unfolding findingOf
 sound-finding q A A′ r hA hA′ hr = by-tests (eqb q A) (blank r)
   where
