@@ -28,7 +28,7 @@ use Rattle.runs.specs.Liveness.{latestFirst, Spaced, lastReply, Answered
 use Rattle.runs.proofs.Parts.{bytes-append}
 use Rattle.runs.proofs.Sizes.{item-fits, insert-fits, remove-fits, put-fits, none-fits, none-well-formed, next-fits, next-well-formed}
 use Rattle.runs.proofs.Runs.{safety}
-use Rattle.runs.proofs.Spaces.{fed-same, honest-same, reply-same}
+use Rattle.runs.proofs.Spaces.{some-turns, fed-same, honest-same, reply-same}
 use Rattle.runs.proofs.Fed.{Brings}
 use Rattle.runs.proofs.Standing.{Ground}
 use Rattle.runs.proofs.SetClear.{set-brings, clear-brings}
@@ -162,4 +162,9 @@ unfolding sha256
 sha256-bytes m = words-bytes _ _ _ _ _ _ _ _
 
 pub liveness : Liveness
-liveness = record { at-sha256 = liveness-for sha256 sha256-length sha256-bytes; at-any = liveness-for }
+liveness =
+    record {
+      at-sha256 = liveness-for sha256 sha256-length sha256-bytes;
+      at-any = liveness-for;
+      taken = some-turns;
+    }

@@ -19,6 +19,12 @@ use Rattle.runs.specs.Honest.{honestLines}
 use Rattle.runs.specs.Liveness.{AllIssued, Spaced, fed, Honest, lastReply, linesFor, turnsFor}
 
 -- just 195 will do
+pub some-turns : (lines : List (List ℕ)) → (us : List Turn) × Spaced lines us
+some-turns [] = ([], tt)
+some-turns (l ∷ ls) =
+    let r = some-turns ls in
+    (record { line = l; space = replyRoom } ∷ r .0, (refl, omega arith, r .1))
+
 just-enough : (qs : List Request) → Spaced (linesOf qs) (turnsOf qs)
 just-enough [] = tt
 just-enough (q ∷ qs) = (refl, omega arith, just-enough qs)

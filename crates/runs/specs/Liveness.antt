@@ -146,7 +146,8 @@ module _ (D : List ℕ → Dig) where
     pub after-runs : LiveOrEnded
     pub by-functions : FunctionsGrant
 
--- for SHA-256, and for any digest of 32 bytes
+-- for SHA-256, and for any digest of 32 bytes; and any lines can be taken with such spaces, so that `Grantable` says something
 pub record Liveness : Type 0 where
   pub at-sha256 : LivenessFor sha256
   pub at-any : (D : List ℕ → Dig) → ((l : List ℕ) → length (D l) ≡ 32) → ((l : List ℕ) → Bytes (D l)) → LivenessFor D
+  pub taken : (lines : List (List ℕ)) → (us : List Turn) × Spaced lines us
