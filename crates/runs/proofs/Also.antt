@@ -15,18 +15,13 @@ use Rattle.rings.proofs.Nodes.{_>>=_, instead}
 use Rattle.rings.proofs.Memos.{stands-more}
 use Rattle.rings.proofs.Endings.{fault-shows}
 use Rattle.rings.proofs.InPaper.{same-list}
-use Rattle.runs.specs.Run.{Turn, Issue, standsFor, isIssued, issuedBy, toldAt, after}
-use Rattle.runs.specs.Endings.{Ending}
+use Rattle.runs.specs.Run.{Issue, standsFor, isIssued, issuedBy, toldAt, after}
 use Rattle.runs.specs.Safety.{SafeOrEnded}
-use Rattle.runs.specs.Liveness.{latestFirst, Grants, turnsFor, FunctionsGrant}
-use Rattle.runs.specs.Outcomes.{itemsAfter}
-use Rattle.runs.specs.Also.{onwards, Shown, RootSettlesList, NoOtherWayOut, Replayed, HonestReplayed, EarliestStays, AlsoFor, Also}
+use Rattle.runs.specs.Also.{onwards, RootSettlesList, NoOtherWayOut, HonestReplayed, EarliestStays, AlsoFor, Also}
 use Rattle.runs.proofs.Formed.{well-at, well-append}
 use Rattle.runs.proofs.Sides.{side}
 use Rattle.runs.proofs.Runs.{run, stands-of, safety}
 use Rattle.runs.proofs.Readings.{readings-agree}
-use Rattle.runs.proofs.Spaces.{own-turns}
-use Rattle.runs.proofs.Live.{liveness}
 use Rattle.runs.proofs.Ended.{ending-is, honest-ends-nothing, not-ended-before-open, not-ended-by-opening}
 
 module _ (D : List ℕ → Dig) (D32 : (l : List ℕ) → length (D l) ≡ 32) where
@@ -66,6 +61,23 @@ module _ (D : List ℕ → Dig) where
   earliest-stays k ts t m h = stands-append m (after D k ts .book)
       (issuedBy D (after D k ts) (toldAt D (after D k ts) t .effect)) h
 
+-- ── granted wishes, replayed ──
+
+honest-replayed : (D : List ℕ → Dig) → ((l : List ℕ) → length (D l) ≡ 32) → HonestReplayed D
+honest-replayed D D32 k ts us T x g =
+    sorted-out (instead (honest-ends-nothing D k ts us (g .honest)) (do
+      e ← readings-agree D D32 k ts us
+      c ← run D D32 k (onwards us ts)
+      inr (record {
+        items = sym e ∙ g .items;
+        stands = stands-of D D32 (after D k (onwards us ts)) (c .0) (side D D32 k (onwards us ts) .well);
+      })))
+  where
+    sorted-out : {A B C : Type 0} → (A ⊎ B) ⊎ C → A ⊎ (B ⊎ C)
+    sorted-out (inl (inl a)) = inl a
+    sorted-out (inl (inr b)) = inr (inl b)
+    sorted-out (inr c) = inr (inr c)
+
 also-for : (D : List ℕ → Dig) → ((l : List ℕ) → length (D l) ≡ 32) → AlsoFor D
 also-for D D32 =
     record {
@@ -76,40 +88,13 @@ also-for D D32 =
       not-ended-before-open = not-ended-before-open D D32;
       not-ended-by-opening = not-ended-by-opening D D32;
       honest-ends-nothing = honest-ends-nothing D;
+      honest-replayed = honest-replayed D D32;
       earliest-stays = earliest-stays D;
     }
-
--- ── granted wishes, replayed ──
-
-honest-replayed : (D : List ℕ → Dig) → ((l : List ℕ) → length (D l) ≡ 32) → FunctionsGrant D → HonestReplayed D
-honest-replayed D D32 grant k ts opened below t x legal = sorted-out (instead (honest-ends-nothing D k ts us (g .honest)) (do
-  e ← readings-agree D D32 k ts us
-  c ← run D D32 k (onwards us ts)
-  inr (record {
-    items = sym e ∙ g .items;
-    stands = stands-of D D32 (after D k (onwards us ts)) (c .0) (side D D32 k (onwards us ts) .well);
-  })))
-  where
-    us : List Turn
-    us = turnsFor D (after D k ts) (t .tree) x
-
-    g : Grants D (latestFirst (after D k ts)) (t .tree) x us
-    g = grant (after D k ts) t opened below x legal us (own-turns D (after D k ts) (t .tree) x) .grants
-
-    Wanted : Type 0
-    Wanted = Replayed D k ts us (itemsAfter (after D k ts .registers) (after D k ts .items) x)
-
-    sorted-out : (Ending D k ts ⊎ Shown D (after D k (onwards us ts) .formed)) ⊎ Wanted
-        → Ending D k ts ⊎ (Shown D (after D k (onwards us ts) .formed) ⊎ Wanted)
-    sorted-out (inl (inl e)) = inl e
-    sorted-out (inl (inr s)) = inr (inl s)
-    sorted-out (inr r) = inr (inr r)
 
 pub also : Also
 also =
     record {
       at-sha256 = also-for sha256 sha256-length;
       at-any = also-for;
-      honest-at-sha256 = honest-replayed sha256 sha256-length (liveness .at-sha256 .by-functions);
-      honest-at-any = λ D D32 DB. honest-replayed D D32 (liveness .at-any D D32 DB .by-functions);
     }

@@ -22,9 +22,10 @@ use Rattle.runs.specs.Run.{Turn, Items, World, after}
 use Rattle.runs.specs.Sizes.{ItemsFit}
 use Rattle.runs.specs.Wishes.{Wish, insertItem, removeItem, swapPlaces, setRecord, clearRecord, askAbout, Legal}
 use Rattle.runs.specs.Outcomes.{itemsAfter, registersAfter, Moved}
+use Rattle.runs.specs.Frames.{turnsOf}
 use Rattle.runs.specs.Honest.{honestLines}
 use Rattle.runs.specs.TreesAfter.{treeAfter}
-use Rattle.runs.specs.Liveness.{latestFirst, Spaced, lastReply, Answered, AllGrantable, LiveOrEnded, linesFor, turnsFor, Granted, FunctionsGrant, LivenessFor, Liveness}
+use Rattle.runs.specs.Liveness.{latestFirst, Spaced, lastReply, Answered, AllGrantable, LiveOrEnded, linesFor, Granted, FunctionsGrant, LivenessFor, Liveness}
 use Rattle.runs.proofs.Parts.{bytes-append}
 use Rattle.runs.proofs.Sizes.{item-fits, insert-fits, remove-fits, put-fits, none-fits, none-well-formed, next-fits, next-well-formed}
 use Rattle.runs.proofs.Runs.{safety}
@@ -54,7 +55,7 @@ module _ (D : List ℕ → Dig) (D32 : (l : List ℕ) → length (D l) ≡ 32) (
         let s′ = registersAfter s (hashOf D U) x in
         Brings D w (honestLines D s T (w .items) x) s′ l n → hashOf D U ≡ s′ .root → s′ .counter .0 ≡ n → Ascending 0 l
         → Permuted (leaves U) (ring (recordHash D) l) → ItemsFit l → Moved x T U
-        → Answered D x (w .items) (lastReply D w (turnsFor D w T x)) → GrantedBy x)
+        → Answered D x (w .items) (lastReply D w (turnsOf (honestLines D s T (w .items) x))) → GrantedBy x)
     grants x n b root counter up holds fits moved answered us spaced =
         let U = treeAfter D s T (w .items) x in
         let qs = honestLines D s T (w .items) x in

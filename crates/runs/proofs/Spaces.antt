@@ -11,12 +11,9 @@ use Rattle.paper.specs.Strings.{Dig}
 use Rattle.paper.specs.Requests.{Request, kindOf, requestOf}
 use Rattle.paper.specs.Refusals.{plain, order, replyRoom, isHex, needs, judge, carried}
 use Rattle.paper.specs.Module.{Told, frameChecks, told, answerTo}
-use Rattle.rings.specs.Trees.{Tree}
 use Rattle.runs.specs.Run.{Turn, last, World, toldAt, landed, next}
-use Rattle.runs.specs.Wishes.{Wish}
 use Rattle.runs.specs.Frames.{linesOf, turnOf, turnsOf}
-use Rattle.runs.specs.Honest.{honestLines}
-use Rattle.runs.specs.Liveness.{AllIssued, Spaced, fed, Honest, lastReply, linesFor, turnsFor}
+use Rattle.runs.specs.Liveness.{AllIssued, Spaced, fed, Honest, lastReply}
 
 -- just 195 will do
 pub some-turns : (lines : List (List ℕ)) → (us : List Turn) × Spaced lines us
@@ -25,14 +22,7 @@ some-turns (l ∷ ls) =
     let r = some-turns ls in
     (record { line = l; space = replyRoom } ∷ r .0, (refl, omega arith, r .1))
 
-just-enough : (qs : List Request) → Spaced (linesOf qs) (turnsOf qs)
-just-enough [] = tt
-just-enough (q ∷ qs) = (refl, omega arith, just-enough qs)
-
 module _ (D : List ℕ → Dig) where
-  pub own-turns : (w : World) (T : Tree) (x : Wish) → Spaced (linesFor D w T x) (turnsFor D w T x)
-  own-turns w T x = just-enough (honestLines D (w .registers) T (w .items) x)
-
   -- ── one line ──
 
   room-enough : (s : Registers) (line : List ℕ) (space : ℕ) → replyRoom ≤ space

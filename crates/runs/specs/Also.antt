@@ -5,20 +5,19 @@ use mathlib.Core.Path.{_≡_}
 use mathlib.Core.Bool.{true, false}
 use mathlib.Core.List.{List, [], _∷_, _++_}
 use mathlib.Core.Logic.{_⊎_}
-use Prim.Native.Nat.{ℕ, _<_}
+use Prim.Native.Nat.{ℕ}
 use lib.ListN.{length}
-use Rattle.seqs.specs.Bytes.{Bytes}
 use Rattle.sha256.specs.Hash.{sha256}
 use Rattle.paper.specs.Strings.{Dig, Str}
-use Rattle.paper.specs.Refusals.{top}
 use Rattle.paper.specs.Collisions.{Collision}
+use Rattle.rings.specs.Trees.{Tree}
 use Rattle.rings.specs.Endings.{ZeroDigest}
 use Rattle.runs.specs.Run.{Turn, Items, standsFor, isIssued, after}
 use Rattle.runs.specs.Endings.{Forged, Ending}
 use Rattle.runs.specs.Safety.{Stands, Safe}
-use Rattle.runs.specs.Wishes.{Wish, Legal}
+use Rattle.runs.specs.Wishes.{Wish}
 use Rattle.runs.specs.Outcomes.{itemsAfter}
-use Rattle.runs.specs.Liveness.{latestFirst, fed, Honest, turnsFor}
+use Rattle.runs.specs.Liveness.{latestFirst, fed, Honest, Grants}
 
 -- further lines, in order, behind those of a run, the latest first
 abbrev pub onwards : (further run : List Turn) → List Turn
@@ -78,20 +77,18 @@ module _ (D : List ℕ → Dig) where
       (k : Dig) (ts us : List Turn) → Honest D (latestFirst (after D k ts)) us → Ending D k (onwards us ts)
       → Ending D k ts ⊎ Shown (after D k (onwards us ts) .formed)
 
-  -- Granted wishes seen by the replay of runs: the run had ended before the honest lines, or among the strings something can be
-  -- shown, or behind them the run's own list is the one wanted and a tree stands for it.
+  -- Granted wishes seen by the replay of runs, whichever lines grant them: the run had ended before those lines, or among the
+  -- strings something can be shown, or behind them the run's own list is the one wanted and a tree stands for it.
   pub record Replayed (k : Dig) (ts us : List Turn) (l : Items) : Type 0 where
     pub items : after D k (onwards us ts) .items ≡ l
     pub stands : Stands D (after D k (onwards us ts))
 
   abbrev pub HonestReplayed : Type 0
   HonestReplayed =
-      (k : Dig) (ts : List Turn) → after D k ts .registers .opened ≡ true → after D k ts .registers .counter .0 < top
-      → (t : Stands D (after D k ts)) (x : Wish) → Legal (after D k ts .items) x
-      → (let us = turnsFor D (after D k ts) (t .tree) x in
-      Ending D k ts
+      (k : Dig) (ts us : List Turn) (T : Tree) (x : Wish) → Grants D (latestFirst (after D k ts)) T x us
+      → Ending D k ts
       ⊎ (Shown (after D k (onwards us ts) .formed)
-      ⊎ Replayed k ts us (itemsAfter (after D k ts .registers) (after D k ts .items) x)))
+      ⊎ Replayed k ts us (itemsAfter (after D k ts .registers) (after D k ts .items) x))
 
   -- "A memorandum stands for what the earliest line that issued it does": whatever lines follow
   abbrev pub EarliestStays : Type 0
@@ -107,11 +104,10 @@ module _ (D : List ℕ → Dig) where
     pub not-ended-before-open : NotEndedBeforeOpen
     pub not-ended-by-opening : NotEndedByOpening
     pub honest-ends-nothing : HonestEndsNothing
+    pub honest-replayed : HonestReplayed
     pub earliest-stays : EarliestStays
 
 -- for SHA-256, and for any digest of 32 bytes
 pub record Also : Type 0 where
   pub at-sha256 : AlsoFor sha256
   pub at-any : (D : List ℕ → Dig) → ((l : List ℕ) → length (D l) ≡ 32) → AlsoFor D
-  pub honest-at-sha256 : HonestReplayed sha256
-  pub honest-at-any : (D : List ℕ → Dig) → ((l : List ℕ) → length (D l) ≡ 32) → ((l : List ℕ) → Bytes (D l)) → HonestReplayed D

@@ -24,7 +24,7 @@ use Rattle.runs.specs.Endings.{Ending}
 use Rattle.runs.specs.Safety.{Stands, TrueFinding}
 use Rattle.runs.specs.Wishes.{Wish, insertItem, removeItem, swapPlaces, setRecord, clearRecord, askAbout, Legal}
 use Rattle.runs.specs.Outcomes.{itemsAfter, registersAfter, Moved}
-use Rattle.runs.specs.Frames.{linesOf, turnsOf}
+use Rattle.runs.specs.Frames.{linesOf}
 use Rattle.runs.specs.Honest.{honestLines}
 use Rattle.runs.specs.TreesAfter.{treeAfter}
 
@@ -125,10 +125,6 @@ module _ (D : List ℕ → Dig) where
   -- the honest lines for a wish, from a world and a tree that stands for it
   abbrev pub linesFor : World → Tree → Wish → List (List ℕ)
   linesFor w T x = linesOf (honestLines D (w .registers) T (w .items) x)
-
-  -- with reply space of 195 bytes
-  abbrev pub turnsFor : World → Tree → Wish → List Turn
-  turnsFor w T x = turnsOf (honestLines D (w .registers) T (w .items) x)
 
   -- they grant it, and the tree after them is that of `TreesAfter`
   pub record Granted (w : World) (T : Tree) (x : Wish) (us : List Turn) : Type 0 where
