@@ -25,4 +25,4 @@ returns c =
 pub set-record-spec : {M : Type 1} → statement M
 set-record-spec =
     tie.close
-    (tie.spec free free (λ c κs. search needs) (λ c κs. search needs) free free free free free returns)
+    (tie.spec free free (λ c κs. search needs) (λ c κs. search needs) free free free free returns)
