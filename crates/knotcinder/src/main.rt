@@ -58,7 +58,8 @@ fn end(r: Registers, line: &[u8], held: usize, out: &mut [u8])
     requires { ⌜ (4244 < length (now line)) × (195 ≤ length (now out)) ⌝ }
     requires { ⌜ Standing r (now line) held ⌝ }
 {
-    let n = session::finish(r, line, held, out);
+    let a = session::finish(r, line, held, out);
+    let n = a.length;
     say(&out[0..n]);
 }
 

@@ -18,7 +18,7 @@ use Rattle.paper.specs.declared.Registers.{Registers}
 use Rattle.paper.specs.Module.{answerTo, replyLine}
 use Rattle.module.specs.declared.Answered.{Answered}
 use Rattle.module.specs.Laws.{Promised}
-use Rattle.session.specs.Serving.{Stand, answerAt, outAfter, servedFrom, ServedAs, RepliedAs, lastReply, FinishedAs}
+use Rattle.session.specs.Serving.{Stand, answerAt, outAfter, servedFrom, ServedAs, RepliedAs, FinishedAs}
 
 -- ── a reply behind others ──
 
@@ -167,27 +167,26 @@ held-part n d = held-by (decLe n (length d))
         let e : min n (length d) ≡ length d = omega arith in
         rw (e, take-length d, take-all n d (omega arith))
 
--- the reply to it: none where it is nothing, and else a line's
-last-nothing : (s : Registers) (l : List ℕ) (room : ℕ) → length l ≡ 0 → lastReply s l room ≡ []
-last-nothing s [] room h = refl
-last-nothing s (b ∷ l) room h = absurd (omega arith)
+-- nothing, and a line
+finished-nothing : (s : Registers) (l o : List ℕ) → length l ≡ 0
+    → FinishedAs s l o (record { registers = s; refused = 0; length = 0; blocks = 0 }) o
+finished-nothing s [] o h = record { returned = refl; left = refl }
+finished-nothing s (b ∷ l) o h = absurd (omega arith)
 
-last-line : (s : Registers) (l : List ℕ) (room : ℕ) → (length l ≡ 0 → ⊥)
-    → lastReply s l room ≡ replyLine (answerTo sha256 s l room)
-last-line s [] room h = absurd (h refl)
-last-line s (b ∷ l) room h = refl
+finished-line : (s : Registers) (l o : List ℕ) (a : Answered) (o′ : List ℕ) → (length l ≡ 0 → ⊥)
+    → Promised s l o a o′ → FinishedAs s l o a o′
+finished-line s [] o a o′ h p = absurd (h refl)
+finished-line s (b ∷ l) o a o′ h p = record { returned = p .returned; left = p .left }
 
 module _ (s : Registers) (n : ℕ) (d o : List ℕ) where
-  pub last-none : min n (length d) ≡ 0 → FinishedAs (lastReply s (take n d) (length o)) o 0 o
-  last-none h =
-      let e = last-nothing s (take n d) (length o) (length-take n d ∙ h) in
-      rw e (record { returned = refl; left = refl })
+  pub last-none : min n (length d) ≡ 0
+      → FinishedAs s (take n d) o (record { registers = s; refused = 0; length = 0; blocks = 0 }) o
+  last-none h = finished-nothing s (take n d) o (length-take n d ∙ h)
 
   pub last-some : (a : Answered) (o′ : List ℕ) (m : ℕ) → m ≡ min n (length d) → (m ≡ 0 → ⊥)
-      → Promised s (take (m - 0) d) o a o′ → FinishedAs (lastReply s (take n d) (length o)) o (a .length) o′
+      → Promised s (take (m - 0) d) o a o′ → FinishedAs s (take n d) o a o′
   last-some a o′ m e h p =
       let z : m - 0 ≡ min n (length d) = omega arith in
       let part : take (m - 0) d ≡ take n d = ap (λ (k : ℕ). take k d) z ∙ held-part n d in
       let q : Promised s (take n d) o a o′ = rw part at p in
-      let f = last-line s (take n d) (length o) (λ i. h (e ∙ sym (length-take n d) ∙ i)) in
-      rw f (record { returned = ap (λ (x : Answered). x .length) (q .returned); left = q .left })
+      finished-line s (take n d) o a o′ (λ i. h (e ∙ sym (length-take n d) ∙ i)) q

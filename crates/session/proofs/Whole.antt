@@ -17,11 +17,12 @@ use Rattle.pieces.proofs.Whole.{cut-anyhow}
 use Rattle.paper.specs.declared.Registers.{Registers}
 use Rattle.paper.specs.Module.{Told, replyLine}
 use Rattle.lines.proofs.Outcomes.{too-long}
-use Rattle.module.proofs.Laws.{with-room, not-hex}
+use Rattle.module.specs.declared.Answered.{Answered}
+use Rattle.module.proofs.Laws.{without-room, with-room, not-hex}
 use Rattle.session.specs.Replies.{toldOf, repliesTo, registersAfter}
 use Rattle.session.specs.declared.Served.{Served}
-use Rattle.session.specs.Serving.{Stand, answerAt, outAfter, servedFrom, servedOf, ServedAs, lastReply, FinishedAs}
-use Rattle.session.specs.Program.{Turned, pieceFrom, pieceOf, writtenFor, WholeInput, OneServing, OneFinish}
+use Rattle.session.specs.Serving.{Stand, answerAt, outAfter, servedFrom, servedOf, ServedAs, lastAnswer, lastReply, FinishedAs}
+use Rattle.session.specs.Program.{Turned, pieceFrom, pieceOf, writtenFor, WholeInput, OneServing, OneFinish, FinishWithoutRoom}
 
 -- ── replies ──
 
@@ -258,21 +259,32 @@ module _ (s : Registers) (p : List ℕ) (at : ℕ) (d : List ℕ) (n : ℕ) (o :
         rw (e .returned, e .line-left)
         (record { regs = goes-regs g; space = g .space; held = g .held; fits = g .fits })
 
-pub finish-within : (reply out : List ℕ) (n : ℕ) (out′ : List ℕ) → FinishedAs reply out n out′ → n ≤ length out′
-finish-within reply out n out′ e =
-    let l : length out′ ≡ length reply + (length out - length reply) = ap length (e .left) ∙ simp (length-append, length-drop) in
-    omega (arith, e .returned)
+-- ── a call of `finish` ──
 
--- what `finish` writes is the reply to what is held, if anything is
+last-length : (s : Registers) (l : List ℕ) (room : ℕ) → lastAnswer s l room .length ≡ length (lastReply s l room)
+last-length s [] room = refl
+last-length s (x ∷ l) room = refl
+
+-- what it writes is the reply to what is held, if anything is
 last-answered : (s : Registers) (l : List ℕ) (room : ℕ) → 195 ≤ room → lastReply s l room ≡ repliesTo s (lastOf l)
 last-answered s [] room r = refl
 last-answered s (x ∷ l) room r = ap replyLine (with-room s (x ∷ l) room r) ∙ sym (append-nil (replyLine (toldOf s (x ∷ l))))
 
-pub finish-bytes : (s : Registers) (l out : List ℕ) (n : ℕ) (out′ : List ℕ) → 195 ≤ length out
-    → FinishedAs (lastReply s l (length out)) out n out′ → take n out′ ≡ repliesTo s (lastOf l)
-finish-bytes s l out n out′ r e =
-    let reply = lastReply s l (length out) in
-    rw (e .left) (take-at reply (drop (length reply) out) n (sym (e .returned))) ∙ last-answered s l (length out) r
+module _ (s : Registers) (l out : List ℕ) (a : Answered) (out′ : List ℕ) (e : FinishedAs s l out a out′) where
+  abbrev reply : List ℕ
+  reply = lastReply s l (length out)
+
+  finish-length : a .length ≡ length reply
+  finish-length = ap (λ (x : Answered). x .length) (e .returned) ∙ last-length s l (length out)
+
+  pub finish-within : a .length ≤ length out′
+  finish-within =
+      let n : length out′ ≡ length reply + (length out - length reply) = ap length (e .left) ∙ simp (length-append, length-drop) in
+      omega (arith, finish-length)
+
+  pub finish-bytes : 195 ≤ length out → take (a .length) out′ ≡ repliesTo s (lastOf l)
+  finish-bytes r =
+      rw (e .left) (take-at reply (drop (length reply) out) (a .length) (sym finish-length)) ∙ last-answered s l (length out) r
 
 -- ── a piece ──
 
@@ -358,4 +370,9 @@ one-serving t r r′ line line′ out out′ p q =
     (p .returned ∙ sym (q .returned), p .line-left ∙ sym (q .line-left), p .out-left ∙ sym (q .out-left))
 
 pub one-finish : OneFinish
-one-finish reply out n n′ o o′ p q = (p .returned ∙ sym (q .returned), p .left ∙ sym (q .left))
+one-finish s l out a a′ o o′ p q = (p .returned ∙ sym (q .returned), p .left ∙ sym (q .left))
+
+pub finish-without-room : FinishWithoutRoom
+finish-without-room s b l out a o h p =
+    let e = without-room s (b ∷ l) (length out) h in
+    (p .returned ∙ rw e refl, p .left ∙ rw e refl)

@@ -10,6 +10,7 @@ use Rattle.seqs.specs.Choose.{pick}
 use Rattle.pieces.specs.Whole.{linesOf}
 use Rattle.paper.specs.declared.Registers.{Registers}
 use Rattle.paper.specs.Refusals.{longestFrame, replyRoom}
+use Rattle.module.specs.declared.Answered.{Answered}
 use Rattle.session.specs.declared.Served.{Served}
 use Rattle.session.specs.Replies.{repliesTo}
 use Rattle.session.specs.Serving.{Stand, servedOf, ServedAs, lastReply, FinishedAs}
@@ -78,5 +79,11 @@ OneServing = (t : Stand) (r r′ : Served) (line line′ out out′ : List ℕ) 
     → (r ≡ r′) × (line ≡ line′) × (out ≡ out′)
 
 abbrev pub OneFinish : Type 0
-OneFinish = (reply out : List ℕ) (n n′ : ℕ) (o o′ : List ℕ) → FinishedAs reply out n o → FinishedAs reply out n′ o′
-    → (n ≡ n′) × (o ≡ o′)
+OneFinish = (s : Registers) (held out : List ℕ) (a a′ : Answered) (o o′ : List ℕ)
+    → FinishedAs s held out a o → FinishedAs s held out a′ o′ → (a ≡ a′) × (o ≡ o′)
+
+-- `finish` with something held and an output of 194 bytes or less: refusal 15, nothing changed and "nothing written"
+abbrev pub FinishWithoutRoom : Type 0
+FinishWithoutRoom = (s : Registers) (b : ℕ) (l out : List ℕ) (a : Answered) (o : List ℕ) → length out < replyRoom
+    → FinishedAs s (b ∷ l) out a o
+    → (a ≡ record { registers = s; refused = 15; length = 0; blocks = 0 }) × (o ≡ out)

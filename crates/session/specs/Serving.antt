@@ -64,13 +64,20 @@ pub record RepliedAs (s : Registers) (l : List ℕ) (w : ℕ) (o : List ℕ) (a 
 
 -- ── the end of the input ──
 
--- "The program takes a last piece without 0A, if it isn't empty, as if 0A followed": its reply in a space of so many
--- bytes, and nothing where nothing is held
+-- "The program takes a last piece without 0A, if it isn't empty, as if 0A followed": what it comes to in an output of so many
+-- bytes, which is its reply space. So an output of 194 bytes or less gets refusal 15, as any reply space of the module: nothing
+-- is written, and the registers are as they were (`FinishWithoutRoom` of Program). Where nothing is held there is no line: the
+-- registers are as they were, and there is no refusal, no reply and no block.
+abbrev pub lastAnswer : Registers → (held : List ℕ) (room : ℕ) → Answered
+lastAnswer s [] room = record { registers = s; refused = 0; length = 0; blocks = 0 }
+lastAnswer s (b ∷ l) room = answeredOf (answerTo sha256 s (b ∷ l) room)
+
+-- and the bytes of its reply
 abbrev pub lastReply : Registers → (held : List ℕ) (room : ℕ) → List ℕ
 lastReply s [] room = []
 lastReply s (b ∷ l) room = replyLine (answerTo sha256 s (b ∷ l) room)
 
--- what `finish` promises: how many bytes it wrote, and every byte of the output
-pub record FinishedAs (reply out : List ℕ) (n : ℕ) (out′ : List ℕ) : Type 0 where
-  pub returned : n ≡ length reply
-  pub left : out′ ≡ reply ++ drop (length reply) out
+-- what `finish` promises: what it returns, and every byte of the output
+pub record FinishedAs (s : Registers) (held out : List ℕ) (a : Answered) (out′ : List ℕ) : Type 0 where
+  pub returned : a ≡ lastAnswer s held (length out)
+  pub left : out′ ≡ lastReply s held (length out) ++ drop (length (lastReply s held (length out))) out

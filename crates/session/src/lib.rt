@@ -9,7 +9,7 @@ ghost use Prim.Native.Nat.{_≤_, min};
 ghost use lib.ListN.{length, take};
 ghost use Rattle.paper.specs.Strings.{nought};
 ghost use Rattle.paper.specs.Module.{unopened};
-ghost use Rattle.session.specs.Serving.{servedOf, lastReply, ServedAs, RepliedAs, FinishedAs};
+ghost use Rattle.session.specs.Serving.{servedOf, ServedAs, RepliedAs, FinishedAs};
 
 // Where serving a piece came to: the registers, the place in the piece where the rest begins, how many bytes are held
 // of the line that is not whole yet, and how many bytes of the output are replies.
@@ -96,15 +96,19 @@ pub fn serve(
     }
 }
 
-// At the end of the input: what is held of a last line without 0A, if anything is, is answered as a line.
-pub fn finish(r: Registers, line: &[u8], held: usize, out: &mut [u8]) -> usize
-    ensures { λ n. ⌜ FinishedAs (lastReply r (take held (now (line .entry))) (length (now (out .entry)))) (now (out .entry)) n
-        (now (out .exit)) ⌝ }
+// At the end of the input: what is held of a last line without 0A, if anything is, is answered as a line, and what it came
+// to is returned: it may be a change like any other. An output of 194 bytes or less gets refusal 15, and nothing is written.
+pub fn finish(r: Registers, line: &[u8], held: usize, out: &mut [u8]) -> Answered
+    ensures { λ a. ⌜ FinishedAs r (take held (now (line .entry))) (now (out .entry)) a (now (out .exit)) ⌝ }
 {
     let n = smaller(held, line.len());
     if n == 0 {
-        return 0;
+        return Answered {
+            registers: r,
+            refused: 0,
+            length: 0,
+            blocks: 0,
+        };
     }
-    let a = module::answer(r, &line[0..n], out);
-    a.length
+    module::answer(r, &line[0..n], out)
 }

@@ -11,30 +11,32 @@ struct Left {
     held: usize,
 }
 
-// Prints a reply's line without its 0A.
-fn print_reply(reply: &[u8], n: usize) {
+// Prints a reply of n bytes without its 0A, and behind it the numbers; nothing where there is no reply.
+fn print_reply(reply: &[u8], n: usize, refused: u8, blocks: u64) {
     if 0 < n {
         if n <= reply.len() {
             io::write_all(1, &reply[0..n - 1]);
+            io::write_all(1, b" ");
+            io::print_decimal(1, refused as u64);
+            io::write_all(1, b" ");
+            io::print_decimal(1, blocks);
+            io::write_all(1, b"\n");
         }
     }
-}
-
-// Prints what stands behind a reply.
-fn print_counts(refused: u8, blocks: u64) {
-    io::write_all(1, b" ");
-    io::print_decimal(1, refused as u64);
-    io::write_all(1, b" ");
-    io::print_decimal(1, blocks);
-    io::write_all(1, b"\n");
 }
 
 fn answer_line(r: Registers, line: &[u8]) -> Registers {
     let mut reply = [0u8; 195];
     let a = module::answer(r, line, &mut reply);
-    print_reply(&reply, a.length);
-    print_counts(a.refused, a.blocks);
+    print_reply(&reply, a.length, a.refused, a.blocks);
     a.registers
+}
+
+// A last line without 0A, if anything is held of one.
+fn end(r: Registers, line: &[u8], held: usize) {
+    let mut reply = [0u8; 195];
+    let a = session::finish(r, line, held, &mut reply);
+    print_reply(&reply, a.length, a.refused, a.blocks);
 }
 
 // Every line that ends in the piece is answered.
@@ -70,9 +72,7 @@ fn run(input: &mut [u8], line: &mut [u8]) {
         let got = libc::read(0, input);
         let n = io::count(got, input);
         if n == 0 {
-            if 0 < held {
-                answer_line(registers, &line[0..held]);
-            }
+            end(registers, line, held);
             return;
         }
         let left = serve(registers, &input[0..n], line, held);

@@ -11,7 +11,7 @@ use Rattle.knotcinder.proofs.end.Tie as tie
 part-say-end : tie.Need-part-say-end
 part-say-end c =
     let t = c .before .before .before .finish in
-    omega (arith, finish-within _ _ _ _ (t .ensures))
+    omega (arith, finish-within _ _ _ _ _ (t .ensures))
 
 say-requires : tie.Need-say-requires
 say-requires c κs =
@@ -19,8 +19,8 @@ say-requires c κs =
     let b = c .before .before .before .before .before .before .before .before in
     let a = b .args in
     let held = take (a .held) (a .line .now) in
-    replies (t .result) _ (lastOf held) (standing-reached (b .pre .1))
-    (finish-bytes (a .r) held (a .out .now) (t .result) _ (omega (arith, b .pre)) (t .ensures))
+    replies (t .result .length) _ (lastOf held) (standing-reached (b .pre .1))
+    (finish-bytes (a .r) held (a .out .now) (t .result) _ (t .ensures) (omega (arith, b .pre)))
 
 pub end-spec : {M : Type 1} → statement M
 end-spec =
