@@ -1,0 +1,170 @@
+-- What is promised, on one page: the mission's three demands, each a statement, clause by clause. `proofs/Demands` shows all three.
+-- They speak of ANY function that meets the contract of `module::answer` or of `module::answer_here`, whatever its code: of what it was
+-- given and what came back. The contract is `Promised`; the words in it are document 01's, as `paper` defines them.
+use mathlib.Core.Path.{_≡_}
+use mathlib.Core.Bool.{true}
+use mathlib.Core.List.{List, [], _∷_, _++_}
+use mathlib.Core.Logic.{_⊎_}
+use Prim.Native.Nat.{ℕ, _<_}
+use lib.ListN.{length, drop}
+use Rattle.hex.specs.Hex.{lineOf}
+use Rattle.sha256.specs.Hash.{sha256}
+use Rattle.paper.specs.declared.Registers.{Registers}
+use Rattle.paper.specs.Strings.{Dig, cost}
+use Rattle.paper.specs.Refusals.{replyRoom, top}
+use Rattle.paper.specs.Module.{unopened, answerTo, replyLine, spaceAfter}
+use Rattle.lines.specs.RoundTrip.{WrittenReads, ReadWrites, OneLine}
+use Rattle.module.specs.declared.Answered.{Answered}
+use Rattle.module.specs.declared.Replied.{Replied}
+use Rattle.module.specs.Answering.{answered, answeredOf}
+use Rattle.module.specs.Laws.{Promised, RefusalIsFirst, RefusalKeeps, OnlyTheReply, ReplyFits, UnderTheCeiling, Opens, RefusingBreaks, OlderMemorandum}
+use Rattle.runs.specs.Run.{Turn, after}
+use Rattle.runs.specs.Endings.{Ending}
+use Rattle.runs.specs.Safety.{Safe}
+use Rattle.runs.specs.Liveness.{Live}
+use Rattle.session.specs.Replies.{registersAfter}
+
+-- ── what the demands are of ──
+
+-- A call: the line, the bytes of the reply space before it, what came back, and the bytes of the space after it.
+pub record Call : Type 0 where
+  pub line : List ℕ
+  pub space : List ℕ
+  pub came : Answered
+  pub left : List ℕ
+
+-- the registers behind some calls on a module that nobody had opened, the latest call first
+abbrev pub standing : (secret : Dig) → List Call → Registers
+standing k [] = unopened k
+standing k (c ∷ cs) = c .came .registers
+
+-- each call was given the registers that the one before it left, and meets the contract
+abbrev pub Kept : (secret : Dig) → List Call → Type 0
+Kept k [] = Unit {0}
+Kept k (c ∷ cs) = Promised (standing k cs) (c .line) (c .space) (c .came) (c .left) × Kept k cs
+
+-- the lines of some calls, each with the length of its space
+abbrev pub turnsOf : List Call → List Turn
+turnsOf [] = []
+turnsOf (c ∷ cs) = record { line = c .line; space = length (c .space) } ∷ turnsOf cs
+
+-- ── the first demand ──
+
+-- "Any line, however damaged, gets one reply": the space then begins with one line, of some bytes in hexadecimal, with its 0A; or,
+-- where it has less than 195 bytes, 15 comes back and nothing was written
+abbrev pub OneReply : Type 0
+OneReply = (s : Registers) (line space after : List ℕ) (o : Answered) → Promised s line space o after
+    → ((o .refused ≡ 15) × (length space < replyRoom) × (after ≡ space))
+    ⊎ ((says : List ℕ) × (after ≡ lineOf says ++ drop (o .length) space) × (o .length ≡ length (lineOf says)))
+
+pub record First : Type 0 where
+  pub one-reply : OneReply
+  -- "Each refusal is one of the fifteen .. given exactly when its condition is the first to apply"
+  pub first-to-apply : RefusalIsFirst
+  -- "After it root, counter and secret are unchanged, and only the reply's own bytes are written"
+  pub refusal-keeps : RefusalKeeps
+  pub only-the-reply : OnlyTheReply
+  pub reply-fits : ReplyFits
+  -- and it does not refuse everything, open or not
+  pub opens : Opens
+  pub not-all-refused : RefusingBreaks
+
+-- ── the second demand ──
+
+-- "Each reply, new root, memorandum and block count is the one" that the definitions give: of `answerTo` at SHA-256
+abbrev pub AsDefined : Type 0
+AsDefined = (s : Registers) (line space after : List ℕ) (o : Answered) → Promised s line space o after
+    → (let t = answerTo sha256 s line (length space) in
+    (o .registers ≡ t .after) × (after ≡ replyLine t ++ drop (length (replyLine t)) space) × (o .blocks ≡ cost (t .formed)))
+
+pub record Second : Type 0 where
+  pub as-defined : AsDefined
+  pub under-the-ceiling : UnderTheCeiling
+  pub older-memorandum : OlderMemorandum
+  -- "Each frame has one line; reading a written frame and writing a read line both return the original"
+  pub one-line : OneLine
+  pub written-reads : WrittenReads
+  pub read-writes : ReadWrites
+
+-- ── the third demand ──
+
+-- what came back from each call, and its reply space afterwards, are those of the run of these lines
+abbrev pub RepliedAlong : (secret : Dig) → List Call → Type 0
+RepliedAlong k [] = Unit {0}
+RepliedAlong k (c ∷ cs) =
+    let told = answerTo sha256 (after sha256 k (turnsOf cs) .registers) (c .line) (length (c .space)) in
+    (c .came ≡ answeredOf told) × (c .left ≡ spaceAfter told (c .space)) × RepliedAlong k cs
+
+-- "Start from an unopened module and feed any lines. After each ..", until something one can show
+pub record Holds (k : Dig) (cs : List Call) : Type 0 where
+  -- the registers are those of the run of these lines, and so are the replies
+  pub registers : standing k cs ≡ after sha256 k (turnsOf cs) .registers
+  pub replies : RepliedAlong k cs
+  -- the root is that of a tree that holds just the replayed list, the counter counts, every answer was true and every change legal
+  pub safe : Ending sha256 k (turnsOf cs) ⊎ Safe sha256 k (turnsOf cs)
+  -- "once open and while the counter is below its top", every legal change and every question has honest lines
+  pub live : standing k cs .opened ≡ true → standing k cs .counter .0 < top
+      → Ending sha256 k (turnsOf cs) ⊎ Live sha256 (after sha256 k (turnsOf cs))
+
+-- a function on registers by value, and one on registers where they lie, which leaves registers beside what it returns; each leaves
+-- a reply space
+abbrev pub ByValue : Type 0
+ByValue = Registers → (line space : List ℕ) → Answered × List ℕ
+
+abbrev pub InPlace : Type 0
+InPlace = Registers → (line space : List ℕ) → Registers × Replied × List ℕ
+
+abbrev pub MeetsByValue : ByValue → Type 0
+MeetsByValue m = (s : Registers) (line space : List ℕ) → Promised s line space (m s line space .0) (m s line space .1)
+
+abbrev pub MeetsInPlace : InPlace → Type 0
+MeetsInPlace m = (s : Registers) (line space : List ℕ)
+    → Promised s line space (answered (m s line space .0) (m s line space .1)) (m s line space .2)
+
+-- what was handed over at a call: a line and a reply space
+pub record Input : Type 0 where
+  pub line : List ℕ
+  pub space : List ℕ
+
+-- the calls of such a function, one after the other, the latest first
+abbrev pub callByValue : ByValue → Registers → Input → Call
+callByValue m s i =
+    let o = m s (i .line) (i .space) in
+    record { line = i .line; space = i .space; came = o .0; left = o .1 }
+
+abbrev pub callsByValue : ByValue → (secret : Dig) → List Input → List Call
+callsByValue m k [] = []
+callsByValue m k (i ∷ is) = callByValue m (standing k (callsByValue m k is)) i ∷ callsByValue m k is
+
+abbrev pub callInPlace : InPlace → Registers → Input → Call
+callInPlace m s i =
+    let o = m s (i .line) (i .space) in
+    record { line = i .line; space = i .space; came = answered (o .0) (o .1); left = o .2 }
+
+abbrev pub callsInPlace : InPlace → (secret : Dig) → List Input → List Call
+callsInPlace m k [] = []
+callsInPlace m k (i ∷ is) = callInPlace m (standing k (callsInPlace m k is)) i ∷ callsInPlace m k is
+
+-- lines as a session feeds them, the latest first, each with room for its reply
+abbrev pub spaced : List (List ℕ) → List Turn
+spaced [] = []
+spaced (l ∷ ls) = record { line = l; space = replyRoom } ∷ spaced ls
+
+abbrev pub inOrder : List (List ℕ) → List (List ℕ)
+inOrder [] = []
+inOrder (l ∷ ls) = inOrder ls ++ (l ∷ [])
+
+pub record Third : Type 0 where
+  -- any calls that each meet the contract
+  pub any-calls : (k : Dig) (cs : List Call) → Kept k cs → Holds k cs
+  -- so any function that meets it, by value or in place
+  pub by-value : (m : ByValue) → MeetsByValue m → (k : Dig) (is : List Input) → Holds k (callsByValue m k is)
+  pub in-place : (m : InPlace) → MeetsInPlace m → (k : Dig) (is : List Input) → Holds k (callsInPlace m k is)
+  -- and the registers along a session's lines (`session::serve`) are a run's
+  pub in-session : (k : Dig) (ls : List (List ℕ)) → registersAfter (unopened k) (inOrder ls) ≡ after sha256 k (spaced ls) .registers
+
+-- ── all three ──
+pub record Demands : Type 0 where
+  pub demand-1 : First
+  pub demand-2 : Second
+  pub demand-3 : Third
