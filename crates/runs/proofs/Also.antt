@@ -22,6 +22,7 @@ use Rattle.runs.proofs.Formed.{well-at, well-append}
 use Rattle.runs.proofs.Sides.{side}
 use Rattle.runs.proofs.Runs.{run, stands-of, safety}
 use Rattle.runs.proofs.Readings.{readings-agree}
+use Rattle.runs.proofs.Entries.{book-grows}
 use Rattle.runs.proofs.Ended.{ending-is, honest-ends-nothing, not-ended-before-open, not-ended-by-opening}
 
 module _ (D : List ℕ → Dig) (D32 : (l : List ℕ) → length (D l) ≡ 32) where
@@ -89,6 +90,7 @@ also-for D D32 =
       not-ended-by-opening = not-ended-by-opening D D32;
       honest-ends-nothing = honest-ends-nothing D;
       honest-replayed = honest-replayed D D32;
+      book-grows = book-grows D D32;
       earliest-stays = earliest-stays D;
     }
 

@@ -18,6 +18,7 @@
 -- Runs        any line keeps it or ends the run: `safety`
 -- Readings    memoranda read by the earliest and by the last line that issued them come to one list
 -- Ended       what an ending is; none before the module is open or by opening it, and none by honest lines
+-- Entries     what a line enters in the book
 --
 -- Every legal wish is granted
 -- Climbs      ways in a tree: what paths along them fold to, cut at 64 levels
@@ -53,6 +54,7 @@ pub mod Replies
 pub mod Runs
 pub mod Readings
 pub mod Ended
+pub mod Entries
 pub mod Climbs
 pub mod Places
 pub mod RingLeaves

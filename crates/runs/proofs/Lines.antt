@@ -15,7 +15,7 @@ use Rattle.paper.specs.declared.Registers.{Registers}
 use Rattle.paper.specs.Strings.{Dig, Str}
 use Rattle.paper.specs.Requests.{Request, kindOf, known, fits, requestOf}
 use Rattle.paper.specs.Refusals.{replyRoom, isHex, Check, needs, Verdict, refused, passed, formedBy, judge}
-use Rattle.paper.specs.Module.{told, answerTo}
+use Rattle.paper.specs.Module.{Told, told, answerTo}
 use Rattle.paper.proofs.Early.{late, among, numbered, numbered-late, none-early}
 use Rattle.rings.proofs.Nodes.{Within}
 use Rattle.runs.specs.Run.{Turn}
@@ -86,13 +86,25 @@ module _ (D : List ℕ → Dig) (s : Registers) (line : List ℕ) (space : ℕ) 
 
   -- ── any line ──
 
+  no-room : ltb space replyRoom ≡ true → answerTo D s line space ≡ told D s (kindOf f) q (refused 15 [])
+  unfolding answerTo
+  no-room h = rw (h, none-early D s q .of-15) refl
+
+  no-digits : ltb space replyRoom ≡ false → isHex line .fails ≡ true
+      → answerTo D s line space ≡ told D s (kindOf f) q (refused 1 [])
+  unfolding answerTo
+  no-digits h i = let e = none-early D s q in rw (h, i, e .of-15, e .of-1) refl
+
+  no-kind : ltb space replyRoom ≡ false → isHex line .fails ≡ false → known (kindOf f) ≡ false
+      → answerTo D s line space ≡ told D s (kindOf f) q (refused 2 [])
+  unfolding answerTo
+  no-kind h i j = let e = none-early D s q in rw (h, i, j, e .of-15, e .of-1, e .of-2) refl
+
   by-tests : (a b c d : Bool) → ltb space replyRoom ≡ a → isHex line .fails ≡ b → known (kindOf f) ≡ c → fits f ≡ d → Sorted
   unfolding answerTo
-  by-tests true b c d h i j k = refusal 15 [] (λ z. omega arith) (let e = none-early D s q in rw (h, e .of-15) refl) (inl refl)
-  by-tests false true c d h i j k =
-      refusal 1 [] (λ z. omega arith) (let e = none-early D s q in rw (h, i, e .of-15, e .of-1) refl) (inl refl)
-  by-tests false false false d h i j k =
-      refusal 2 [] (λ z. omega arith) (let e = none-early D s q in rw (h, i, j, e .of-15, e .of-1, e .of-2) refl) (inl refl)
+  by-tests true b c d h i j k = refusal 15 [] (λ z. omega arith) (no-room h) (inl refl)
+  by-tests false true c d h i j k = refusal 1 [] (λ z. omega arith) (no-digits h i) (inl refl)
+  by-tests false false false d h i j k = refusal 2 [] (λ z. omega arith) (no-kind h i j) (inl refl)
   by-tests false false true false h i j k =
       refusal 3 [] (λ z. omega arith) (let e = none-early D s q in rw (h, i, j, k, e .of-15, e .of-1, e .of-2, e .of-3) refl)
       (inl refl)
@@ -100,3 +112,17 @@ module _ (D : List ℕ → Dig) (s : Registers) (line : List ℕ) (space : ℕ) 
 
   pub sorted : Sorted
   sorted = by-tests (ltb space replyRoom) (isHex line .fails) (known (kindOf f)) (fits f) refl refl refl refl
+
+  -- an accepted line's kind is in the table
+  pub accepted-known : answerTo D s line space .refusal ≡ 0 → known (kindOf f) ≡ true
+  accepted-known z = go (ltb space replyRoom) (isHex line .fails) (known (kindOf f)) refl refl refl
+    where
+      not-refused : (n : ℕ) → (n ≡ 0 → ⊥) → answerTo D s line space ≡ told D s (kindOf f) q (refused n [])
+          → known (kindOf f) ≡ true
+      not-refused n h e = absurd (h (sym (ap (λ (a : Told). a .refusal) e) ∙ z))
+
+      go : (a b c : Bool) → ltb space replyRoom ≡ a → isHex line .fails ≡ b → known (kindOf f) ≡ c → known (kindOf f) ≡ true
+      go a b true h i j = j
+      go true b false h i j = not-refused 15 (λ z. omega arith) (no-room h)
+      go false true false h i j = not-refused 1 (λ z. omega arith) (no-digits h i)
+      go false false false h i j = not-refused 2 (λ z. omega arith) (no-kind h i j)

@@ -1,18 +1,20 @@
 -- What else holds of runs: the root settles the list; both readings of memoranda come to one list, so that honest lines do for
 -- the replay of runs what they do by their own reading; the endings are the only way out, and neither opening nor honest lines
--- are one; and what is read by the earliest line stays as that line meant it.
+-- are one; the book grows by the memoranda that replies list; and what is read by the earliest line stays as that line meant it.
 use mathlib.Core.Path.{_≡_}
 use mathlib.Core.Bool.{true, false}
 use mathlib.Core.List.{List, [], _∷_, _++_}
 use mathlib.Core.Logic.{_⊎_}
-use Prim.Native.Nat.{ℕ}
-use lib.ListN.{length}
+use Prim.Native.Nat.{ℕ, _-_, _≤_}
+use lib.ListN.{length, drop}
 use Rattle.sha256.specs.Hash.{sha256}
+use Rattle.hex.specs.Hex.{bytesOf}
 use Rattle.paper.specs.Strings.{Dig, Str}
+use Rattle.paper.specs.Requests.{kindOf}
 use Rattle.paper.specs.Collisions.{Collision}
 use Rattle.rings.specs.Trees.{Tree}
 use Rattle.rings.specs.Endings.{ZeroDigest}
-use Rattle.runs.specs.Run.{Turn, Items, standsFor, isIssued, after}
+use Rattle.runs.specs.Run.{Turn, Items, Issue, standsFor, isIssued, World, toldAt, after}
 use Rattle.runs.specs.Endings.{Forged, Ending}
 use Rattle.runs.specs.Safety.{Stands, Safe}
 use Rattle.runs.specs.Wishes.{Wish}
@@ -23,6 +25,10 @@ use Rattle.runs.specs.Liveness.{latestFirst, fed, Honest, Grants}
 abbrev pub onwards : (further run : List Turn) → List Turn
 onwards [] ts = ts
 onwards (t ∷ us) ts = onwards us (t ∷ ts)
+
+-- the last bytes of some
+abbrev pub lastOf : (n : ℕ) → List ℕ → List ℕ
+lastOf n l = drop (length l - n) l
 
 module _ (D : List ℕ → Dig) where
   -- two different strings with one digest among some, or one whose digest is all zero
@@ -96,6 +102,17 @@ module _ (D : List ℕ → Dig) where
       (k : Dig) (ts : List Turn) (t : Turn) (m : Dig) → isIssued m (after D k ts .book) ≡ true
       → standsFor m (after D k (t ∷ ts) .book) ≡ standsFor m (after D k ts .book)
 
+  -- "A line issues the memorandum its reply lists": an accepted line of kinds 01 to 0a enters one memorandum behind those issued
+  -- before, the last 32 bytes of its reply; no other line enters any.
+  pub record Entered (w : World) (t : Turn) (book : List Issue) : Type 0 where
+    pub issuing : toldAt D w t .refusal ≡ 0 → kindOf (bytesOf (t .line)) ≤ 0x0a
+        → (i : Issue) × (i .memorandum ≡ lastOf 32 (toldAt D w t .says)) × (book ≡ w .book ++ (i ∷ []))
+    pub other : 0x0a < kindOf (bytesOf (t .line)) → book ≡ w .book
+    pub refused : (toldAt D w t .refusal ≡ 0 → ⊥) → book ≡ w .book
+
+  abbrev pub BookGrows : Type 0
+  BookGrows = (k : Dig) (ts : List Turn) (t : Turn) → Entered (after D k ts) t (after D k (t ∷ ts) .book)
+
   pub record AlsoFor : Type 0 where
     pub root-settles : RootSettlesList
     pub readings-agree : ReadingsAgree
@@ -105,6 +122,7 @@ module _ (D : List ℕ → Dig) where
     pub not-ended-by-opening : NotEndedByOpening
     pub honest-ends-nothing : HonestEndsNothing
     pub honest-replayed : HonestReplayed
+    pub book-grows : BookGrows
     pub earliest-stays : EarliestStays
 
 -- for SHA-256, and for any digest of 32 bytes
