@@ -3,7 +3,7 @@
 use mathlib.Core.Path.{_≡_, refl, sym, ap, subst, _∙_}
 use mathlib.Core.Bool.{Bool, true, false, true≢false}
 use mathlib.Core.List.{List, [], _∷_, _++_, List·Memᴰ, List·Memᴰ·tail, Memᴰ·append-left, Memᴰ·append-right}
-use mathlib.Core.Logic.{inl, inr}
+use mathlib.Core.Logic.{_⊎_, inl, inr}
 use Prim.Native.Nat.{ℕ, _+_}
 use native.Mathlib.Omega.{arith}
 use borrow.Author.Tests.{eqb-true, eqb-false, ne-eqb}
@@ -177,8 +177,9 @@ module _ (D : List ℕ → Dig) (D32 : (l : List ℕ) → length (D l) ≡ 32) w
         → malformed old ≡ false → malformed new ≡ false
         → noneFits D key (changeSays D A A′ old new y y′ ∷ []) m ≡ false → opposite (same y (s .root)) ≡ false
         → answer D s q .after .root ≡ y′ → answer D s q .after .counter .0 ≡ s .counter .0 + 1
-        → answer D s q .effect ≡ changes A new → TrueFor D q (w .items) → (blank new ≡ true → blank old ≡ false) → Comes q
-    changed {q} g A A′ old new y y′ m i forms ok ok′ fit r e₁ e₂ e₃ tr full = do
+        → answer D s q .effect ≡ changes A new → TrueFor D q (w .items) → (blank new ≡ true → blank old ≡ false)
+        → (new .revision .0 ≡ s .counter .0 + 1) ⊎ (new ≡ clearedRecord) → Comes q
+    changed {q} g A A′ old new y y′ m i forms ok ok′ fit r e₁ e₂ e₃ tr full next = do
       let t = changeSays D A A′ old new y y′
       u ← C.means D w (G q) (backed q) q t m i (forms _ (Memᴰ·append-right (changeForms D A A′ old new) at0)) fit
       p ← instead inl (P.put D D32 (G q) A A′ old new (v .tree) (w .items) ok ok′ (λ x j. forms x (Memᴰ·append-left _ j)) u
@@ -192,7 +193,7 @@ module _ (D : List ℕ → Dig) (D32 : (l : List ℕ) → length (D l) ≡ 32) w
           counter = rw e₃ (e₂ ∙ ap (λ (n : ℕ). n + 1) (v .counter));
         },
         tr,
-        rw e₃ (old, p .was, full),
+        rw e₃ (old, p .was, full, next),
       )
 
     -- a set's new record has a revision above 0
@@ -273,11 +274,11 @@ module _ (D : List ℕ → Dig) (D32 : (l : List ℕ) → length (D l) ≡ 32) w
     accepted (Q.setTo A A′ old v y y′ m) g =
         let h = g .none-fails .1 .1 .1 in
         changed g A A′ old (nextRecord s v) y y′ m at0 (g .of-check _ at5) (h .0) (set-sound v) (h .1 .1 .0)
-        (h .1 .1 .1 .0) refl refl refl tt (λ e. absurd (true≢false (sym e ∙ set-recorded v)))
+        (h .1 .1 .1 .0) refl refl refl tt (λ e. absurd (true≢false (sym e ∙ set-recorded v))) (inl refl)
     accepted (Q.clear A A′ old y y′ m) g =
         let h = g .none-fails .1 .1 .1 in
         changed g A A′ old clearedRecord y y′ m at0 (g .of-check _ at6) (h .0) cleared-sound (h .1 .1 .1 .0) (h .1 .1 .1 .1 .0)
-        refl refl refl tt (λ e. h .1 .0)
+        refl refl refl tt (λ e. h .1 .0) (inr refl)
     accepted (Q.ask n A A′ r y m) g = do
       let q = Q.ask n A A′ r y m
       let h = g .none-fails .1 .1 .1 .1

@@ -3,7 +3,7 @@ use mathlib.Core.Path.{_≡_}
 use mathlib.Core.Bool.{true, false}
 use mathlib.Core.List.{List, [], _∷_, List·Memᴰ}
 use mathlib.Core.Logic.{_⊎_}
-use Prim.Native.Nat.{ℕ}
+use Prim.Native.Nat.{ℕ, _+_}
 use lib.ListN.{length, take, drop}
 use Rattle.seqs.specs.Bytes.{be64, numberOf}
 use Rattle.sha256.specs.Hash.{sha256}
@@ -13,6 +13,7 @@ use Rattle.paper.specs.declared.Finding.{Finding}
 use Rattle.paper.specs.declared.Finding.the-variants.{Recorded, Listed as Empty, Gap}
 use Rattle.paper.specs.Strings.{Dig, emptyRecord, blank, inGap, recordHash}
 use Rattle.paper.specs.Requests.{kindOf}
+use Rattle.paper.specs.Refusals.{clearedRecord}
 use Rattle.paper.specs.Answers.{Effect, none′, issues, adopts, changes, findingBytes, findingIn}
 use Rattle.paper.specs.Module.{unopened}
 use Rattle.rings.specs.Trees.{Tree, points, leaves, hashOf, Permuted}
@@ -54,13 +55,15 @@ module _ (D : List ℕ → Dig) where
         → (says ≡ 0x8e ∷ findingBytes (findingIn (drop 1 says))) × TrueFinding (questionIn f) (findingIn (drop 1 says)) l
     pub ask-of-none : kindOf f ≡ 0x0f → (says ≡ 0x8f ∷ be64 (questionIn f)) × (l ≡ [])
 
-  -- each adopted change was legal where it was adopted; a record changes only at a listed item, and is emptied only where
-  -- there was one
+  -- each adopted change was legal where it was adopted; a record changes only at a listed item, into one whose revision is the
+  -- raised counter or into none, and is emptied only where there was one
   abbrev pub LegalEffect : World → Effect → Type 0
   LegalEffect w none′ = Unit {0}
   LegalEffect w (issues t c) = Unit {0}
   LegalEffect w (adopts m) = LegalSteps (standsFor m (w .book)) (w .items)
-  LegalEffect w (changes A r) = (s : Record) × Listed A s (w .items) × (blank r ≡ true → blank s ≡ false)
+  LegalEffect w (changes A r) =
+      (s : Record) × Listed A s (w .items) × (blank r ≡ true → blank s ≡ false)
+      × ((r .revision .0 ≡ w .registers .counter .0 + 1) ⊎ (r ≡ clearedRecord))
 
   -- one line at its world
   pub record Fair (w : World) (t : Turn) : Type 0 where
