@@ -8,13 +8,9 @@ use Prim.Native.Nat.{ℕ, _+_}
 use native.Mathlib.Omega.{arith}
 use Rattle.paper.specs.Strings.{Dig, nought, Str, node}
 use Rattle.rings.specs.Trees.{Leaf, points, Tree, empty, tip, branch, leaves, count}
+use Rattle.rings.specs.Meanings.{_∈_, Within, Sibling, left, right, above, NodeIn, fold, PathIn, fold-two, PathsIn, hash, TreeIn, Fault, vanishes}
 use Rattle.rings.proofs.Counting.{count-nil, count-append}
-use Rattle.rings.proofs.Nodes.{Dig-discrete, _∈_, Within, above, above-right-0, above-left-0, above-node, hash, NodeIn, TreeIn, Fault, vanishes, _>>=_, same-string, no-leaf}
-
--- a level of a path: the sibling, and the side that it stands on
-pub data Sibling : Type 0 where
-  left : Dig → Sibling
-  right : Dig → Sibling
+use Rattle.rings.proofs.Nodes.{Dig-discrete, above-right-0, above-left-0, above-node, _>>=_, same-string, no-leaf}
 
 module _ (D : Str → Dig) where
   -- ── one node ──
@@ -91,28 +87,17 @@ module _ (D : Str → Dig) where
 
   -- ── a path, the topmost sibling first ──
 
-  abbrev pub fold : List Sibling → Dig → Dig
-  fold [] x = x
-  fold (left s ∷ p) x = above D s (fold p x)
-  fold (right s ∷ p) x = above D (fold p x) s
-
-  -- the node strings of the way up are among F
-  abbrev pub PathIn : List Str → List Sibling → Dig → Type 0
-  PathIn F [] x = Unit {0}
-  PathIn F (left s ∷ p) x = PathIn F p x × NodeIn D F s (fold p x)
-  PathIn F (right s ∷ p) x = PathIn F p x × NodeIn D F (fold p x) s
-
-  pub path-more : {F G : List Str} (p : List Sibling) (x : Dig) → Within F G → PathIn F p x → PathIn G p x
+  pub path-more : {F G : List Str} (p : List Sibling) (x : Dig) → Within F G → PathIn D F p x → PathIn D G p x
   path-more [] x s i = tt
-  path-more (left a ∷ p) x s i = (path-more p x s (i .0), λ n m. s (node a (fold p x)) (i .1 n m))
-  path-more (right a ∷ p) x s i = (path-more p x s (i .0), λ n m. s (node (fold p x) a) (i .1 n m))
+  path-more (left a ∷ p) x s i = (path-more p x s (i .0), λ n m. s (node a (fold D p x)) (i .1 n m))
+  path-more (right a ∷ p) x s i = (path-more p x s (i .0), λ n m. s (node (fold D p x) a) (i .1 n m))
 
-  pub fold-append : (q p : List Sibling) (x : Dig) → fold (q ++ p) x ≡ fold q (fold p x)
+  pub fold-append : (q p : List Sibling) (x : Dig) → fold D (q ++ p) x ≡ fold D q (fold D p x)
   fold-append [] p x = refl
   fold-append (left s ∷ q) p x = ap (above D s) (fold-append q p x)
   fold-append (right s ∷ q) p x = ap (λ (y : Dig). above D y s) (fold-append q p x)
 
-  pub path-append : (F : List Str) (q p : List Sibling) (x : Dig) → PathIn F q (fold p x) → PathIn F p x → PathIn F (q ++ p) x
+  pub path-append : (F : List Str) (q p : List Sibling) (x : Dig) → PathIn D F q (fold D p x) → PathIn D F p x → PathIn D F (q ++ p) x
   path-append F [] p x i j = j
   path-append F (left s ∷ q) p x i j = (path-append F q p x (i .0) j, rw (fold-append q p x) (i .1))
   path-append F (right s ∷ q) p x i j = (path-append F q p x (i .0) j, rw (fold-append q p x) (i .1))
@@ -131,10 +116,10 @@ module _ (D : Str → Dig) where
     pub part-in : TreeIn D F part
     pub rest : List Leaf
     pub cut : (z : Leaf) → count z (leaves T) ≡ count z (leaves part) + count z rest
-    pub fill : (Y : Tree) (y : Dig) → hash D Y ≡ y → TreeIn D F Y → PathIn F p y
-        → Made F (fold p y) (λ z. count z (leaves Y) + count z rest)
+    pub fill : (Y : Tree) (y : Dig) → hash D Y ≡ y → TreeIn D F Y → PathIn D F p y
+        → Made F (fold D p y) (λ z. count z (leaves Y) + count z rest)
 
-  pub align : {F : List Str} (p : List Sibling) (x : Dig) (T : Tree) → fold p x ≡ hash D T → TreeIn D F T → PathIn F p x
+  pub align : {F : List Str} (p : List Sibling) (x : Dig) (T : Tree) → fold D p x ≡ hash D T → TreeIn D F T → PathIn D F p x
       → Fault D F ⊎ Hole F p x T
   align [] x T e i j =
       inr (record {
@@ -147,7 +132,7 @@ module _ (D : Str → Dig) where
             record { tree = Y; tree-hash = eY; tree-in = iY; holds = λ z. rw count-nil (omega arith) };
       })
   align (left s ∷ p) x T e i j = do
-    c ← split T s (fold p x) (j .1) e i
+    c ← split T s (fold D p x) (j .1) e i
     d ← align p x (c .r) (sym (c .hash-r)) (c .in-r) (j .0)
     inr (record {
       part = d .part;
@@ -165,7 +150,7 @@ module _ (D : Str → Dig) where
           };
     })
   align (right s ∷ p) x T e i j = do
-    c ← split T (fold p x) s (j .1) e i
+    c ← split T (fold D p x) s (j .1) e i
     d ← align p x (c .l) (sym (c .hash-l)) (c .in-l) (j .0)
     inr (record {
       part = d .part;
@@ -185,20 +170,13 @@ module _ (D : Str → Dig) where
 
   -- ── two paths that meet under one node, and the path above it ──
 
-  abbrev pub fold-two : (p₁ p₂ q : List Sibling) → Dig → Dig → Dig
-  fold-two p₁ p₂ q x₁ x₂ = fold q (above D (fold p₁ x₁) (fold p₂ x₂))
-
-  abbrev pub PathsIn : List Str → (p₁ p₂ q : List Sibling) → Dig → Dig → Type 0
-  PathsIn F p₁ p₂ q x₁ x₂ =
-      PathIn F p₁ x₁ × PathIn F p₂ x₂ × NodeIn D F (fold p₁ x₁) (fold p₂ x₂) × PathIn F q (above D (fold p₁ x₁) (fold p₂ x₂))
-
-  pub paths-more : {F G : List Str} (p₁ p₂ q : List Sibling) (x₁ x₂ : Dig) → Within F G → PathsIn F p₁ p₂ q x₁ x₂
-      → PathsIn G p₁ p₂ q x₁ x₂
+  pub paths-more : {F G : List Str} (p₁ p₂ q : List Sibling) (x₁ x₂ : Dig) → Within F G → PathsIn D F p₁ p₂ q x₁ x₂
+      → PathsIn D G p₁ p₂ q x₁ x₂
   paths-more p₁ p₂ q x₁ x₂ s i = (
     path-more p₁ x₁ s (i .0),
     path-more p₂ x₂ s (i .1),
-    λ n m. s (node (fold p₁ x₁) (fold p₂ x₂)) (i .2 n m),
-    path-more q (above D (fold p₁ x₁) (fold p₂ x₂)) s (i .3),
+    λ n m. s (node (fold D p₁ x₁) (fold D p₂ x₂)) (i .2 n m),
+    path-more q (above D (fold D p₁ x₁) (fold D p₂ x₂)) s (i .3),
   )
 
   -- T holds a part of hash x₁ and beside it one of hash x₂; parts of hashes x₁′ and x₂′ put there make a tree of hash y′
@@ -214,12 +192,12 @@ module _ (D : Str → Dig) where
     pub fill : (Y₁ Y₂ : Tree) → hash D Y₁ ≡ x₁′ → hash D Y₂ ≡ x₂′ → TreeIn D F Y₁ → TreeIn D F Y₂
         → Made F y′ (λ z. count z (leaves Y₁) + count z (leaves Y₂) + count z rest)
 
-  pub align-two : {F : List Str} (p₁ p₂ q : List Sibling) (x₁ x₂ x₁′ x₂′ : Dig) (T : Tree) → fold-two p₁ p₂ q x₁ x₂ ≡ hash D T
-      → TreeIn D F T → PathsIn F p₁ p₂ q x₁ x₂ → PathsIn F p₁ p₂ q x₁′ x₂′
-      → Fault D F ⊎ Two F x₁ x₂ x₁′ x₂′ (fold-two p₁ p₂ q x₁′ x₂′) T
+  pub align-two : {F : List Str} (p₁ p₂ q : List Sibling) (x₁ x₂ x₁′ x₂′ : Dig) (T : Tree) → fold-two D p₁ p₂ q x₁ x₂ ≡ hash D T
+      → TreeIn D F T → PathsIn D F p₁ p₂ q x₁ x₂ → PathsIn D F p₁ p₂ q x₁′ x₂′
+      → Fault D F ⊎ Two F x₁ x₂ x₁′ x₂′ (fold-two D p₁ p₂ q x₁′ x₂′) T
   align-two p₁ p₂ q x₁ x₂ x₁′ x₂′ T e i j k = do
-    a ← align q (above D (fold p₁ x₁) (fold p₂ x₂)) T e i (j .3)
-    c ← split (a .part) (fold p₁ x₁) (fold p₂ x₂) (j .2) (sym (a .part-hash)) (a .part-in)
+    a ← align q (above D (fold D p₁ x₁) (fold D p₂ x₂)) T e i (j .3)
+    c ← split (a .part) (fold D p₁ x₁) (fold D p₂ x₂) (j .2) (sym (a .part-hash)) (a .part-in)
     d ← align p₁ x₁ (c .l) (sym (c .hash-l)) (c .in-l) (j .0)
     f ← align p₂ x₂ (c .r) (sym (c .hash-r)) (c .in-r) (j .1)
     inr (record {
@@ -234,7 +212,7 @@ module _ (D : Str → Dig) where
       fill = λ Y₁ Y₂ e₁ e₂ i₁ i₂.
           let u = d .fill Y₁ x₁′ e₁ i₁ (k .0) in
           let v = f .fill Y₂ x₂′ e₂ i₂ (k .1) in
-          let w = a .fill (branch (u .tree) (v .tree)) (above D (fold p₁ x₁′) (fold p₂ x₂′)) (cc (u .tree-hash, v .tree-hash))
+          let w = a .fill (branch (u .tree) (v .tree)) (above D (fold D p₁ x₁′) (fold D p₂ x₂′)) (cc (u .tree-hash, v .tree-hash))
           (u .tree-in, v .tree-in, rw (u .tree-hash, v .tree-hash) (k .2)) (k .3) in
           record {
             tree = w .tree;

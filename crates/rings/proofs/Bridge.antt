@@ -15,8 +15,8 @@ use Rattle.seqs.specs.Bytes.{allZero}
 use Rattle.paper.specs.declared.Record.{Record}
 use Rattle.paper.specs.Strings.{Dig, nought, emptyRecord, Str, entry, node, enc, numbers, blank, malformed, recordForms, parentForms, digest, recordHash, H}
 use Rattle.rings.specs.Trees.{points, Tree, empty, tip, branch, hashOf}
-use Rattle.rings.proofs.Nodes.{Dig-discrete, Within, above, above-right-0, above-left-0, above-node, hash, NodeIn}
-use Rattle.rings.proofs.Records.{Known, known-empty, known-recorded}
+use Rattle.rings.specs.Meanings.{Within, above, NodeIn, hash, Known, known-empty, known-recorded}
+use Rattle.rings.proofs.Nodes.{Dig-discrete, above-right-0, above-left-0, above-node}
 
 -- ── a digest that is 0 ──
 

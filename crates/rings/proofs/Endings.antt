@@ -7,7 +7,7 @@ use Rattle.paper.specs.Strings.{Dig, Str, WellFormed, digest}
 use Rattle.paper.specs.Collisions.{Collision}
 use Rattle.paper.proofs.Encoding.{enc-injective}
 use Rattle.rings.specs.Endings.{ZeroDigest}
-use Rattle.rings.proofs.Nodes.{_∈_, Fault, collides, vanishes}
+use Rattle.rings.specs.Meanings.{_∈_, Fault, collides, vanishes}
 
 pub fault-shows : {D : List ℕ → Dig} {F : List Str} → ((s : Str) → s ∈ F → WellFormed s) → Fault (digest D) F
     → Collision D F ⊎ ZeroDigest D F

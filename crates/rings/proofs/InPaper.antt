@@ -13,10 +13,9 @@ use Rattle.paper.specs.Refusals.{placeForms, leafOf, leafForms, changeForms}
 use Rattle.rings.specs.Trees.{points, Tree, leaves, hashOf, Permuted}
 use Rattle.rings.specs.Lists.{Item, Listed, Unlisted, ring}
 use Rattle.rings.specs.Changes.{Step, removal}
-use Rattle.rings.proofs.Nodes.{_∈_, Within, Fault, _>>=_}
+use Rattle.rings.specs.Meanings.{_∈_, Within, MeansU1, MeansV1, MeansU2, hashRecord, Known, StandsFor, Fault, Moved, MeansEI}
+use Rattle.rings.proofs.Nodes.{_>>=_}
 use Rattle.rings.proofs.Gaps.{gap-holds}
-use Rattle.rings.proofs.Records.{hashRecord, Known}
-use Rattle.rings.proofs.Memos.{StandsFor, MeansU1, MeansV1, MeansU2, MeansEI, Moved}
 use Rattle.rings.proofs.TreeKinds as T
 use Rattle.rings.proofs.RingKinds as R
 use Rattle.rings.proofs.ListKinds as L

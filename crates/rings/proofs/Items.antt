@@ -11,13 +11,9 @@ use borrow.Author.Tests.{ltb-true, ltb-false, eq-eqb}
 use lib.Dec.{eqb, ltb}
 use Rattle.seqs.specs.Choose.{pick}
 use Rattle.rings.specs.Lists.{Item, item, Ascending, Listed, Unlisted, insert, remove, putRecord}
+use Rattle.rings.specs.Meanings.{AllRecords}
 
 module _ {R : Type 0} where
-  -- P holds of every record of the list
-  abbrev pub AllRecords : (R → Type 0) → List (Item R) → Type 0
-  AllRecords P [] = Unit {0}
-  AllRecords P (item a r ∷ l) = P r × AllRecords P l
-
   pub record-at : (P : R → Type 0) (l : List (Item R)) (a : ℕ) (r : R) → AllRecords P l → Listed a r l → P r
   record-at P (item b s ∷ l) a r g (List·Memᴰ·head e) = let p : s ≡ r = cc in subst P p (g .0)
   record-at P (item b s ∷ l) a r g (List·Memᴰ·tail m) = record-at P l a r (g .1) m

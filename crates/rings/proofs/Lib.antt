@@ -11,13 +11,13 @@
 -- RingChanges  which leaves change with the list
 --
 -- Trees known by their hashes alone, or else a fault
--- Nodes        trees, their hashes, and what a hash says of a tree
+-- Nodes        what a hash says of a tree
 -- Records      the hash of a record tells the record
 -- Align        a path that folds to a tree's hash is a path of that tree
 --
 -- Memoranda
 -- Steps        steps on a list, in order and reversed
--- Memos        what each memorandum means, and a tree that stands for a list
+-- Memos        what a memorandum means, and a tree that stands for a list, when more strings are formed
 -- TreeKinds    kinds 02 to 05
 -- RingKinds    kinds 06 to 0a
 -- ListKinds    kinds 0c to 0f

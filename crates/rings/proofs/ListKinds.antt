@@ -9,15 +9,15 @@ use Rattle.paper.specs.declared.Record.{Record}
 use Rattle.paper.specs.Strings.{Dig, nought, Str, leaf}
 use Rattle.rings.specs.Trees.{Leaf, points, Tree, tip, one, count}
 use Rattle.rings.specs.Lists.{Item, Listed, Unlisted, putRecord, ring}
+use Rattle.rings.specs.Meanings.{_∈_, Sibling, AllRecords, fold, PathIn, MeansU1, MeansV1, hash, hashRecord, Known, StandsFor, Fault}
 use Rattle.rings.proofs.Counting.{one-self, count-nil, count-only, occurs}
-use Rattle.rings.proofs.Nodes.{_∈_, hash, Fault, _>>=_, no-leaf, only-leaf}
-use Rattle.rings.proofs.Align.{Sibling, fold, PathIn, Hole, align}
+use Rattle.rings.proofs.Nodes.{_>>=_, no-leaf, only-leaf}
+use Rattle.rings.proofs.Align.{Hole, align}
 use Rattle.rings.proofs.Gaps.{Gap}
-use Rattle.rings.proofs.Items.{AllRecords, record-at, put-ascending, put-all}
+use Rattle.rings.proofs.Items.{record-at, put-ascending, put-all}
 use Rattle.rings.proofs.Ring.{leaf-item, gap-free}
 use Rattle.rings.proofs.RingChanges.{put-ring}
-use Rattle.rings.proofs.Records.{hashRecord, Known, same-record}
-use Rattle.rings.proofs.Memos.{StandsFor, MeansU1, MeansV1}
+use Rattle.rings.proofs.Records.{same-record}
 use Rattle.rings.proofs.RingKinds.{no-items}
 
 module _ (D : Str → Dig) where

@@ -8,9 +8,8 @@ use lib.Dec.{eqb}
 use lib.ListN.{length}
 use Rattle.seqs.specs.Choose.{pick}
 use Rattle.paper.specs.Strings.{Dig, Str, parentForms, digest, H, up, upForms, foldUp, foldForms}
-use Rattle.rings.proofs.Nodes.{Within}
-use Rattle.rings.proofs.Align.{Sibling, left, right, fold, PathIn, fold-append, path-append}
-use Rattle.rings.proofs.Memos.{MeansU1}
+use Rattle.rings.specs.Meanings.{Within, Sibling, left, right, fold, PathIn, MeansU1}
+use Rattle.rings.proofs.Align.{fold-append, path-append}
 use Rattle.rings.proofs.Bridge.{node-in, parent-is, parent-32}
 
 -- ── siblings and their sides ──

@@ -10,17 +10,17 @@ use Rattle.paper.specs.Strings.{Dig, nought, emptyRecord, Str, leaf}
 use Rattle.rings.specs.Trees.{Leaf, points, Tree, empty, tip, one, count}
 use Rattle.rings.specs.Lists.{Item, item, Ascending, Listed, insert, chainOf, ring}
 use Rattle.rings.specs.Changes.{Step, insertion, removal, doSteps, reversed}
+use Rattle.rings.specs.Meanings.{_∈_, Within, AllRecords, MeansU2, hash, TreeIn, hashRecord, Known, known-empty, Fault, Leads, MeansEI}
 use Rattle.rings.proofs.Counting.{one-self, count-nil, count-cons, count-only, count-single}
-use Rattle.rings.proofs.Nodes.{_∈_, Within, hash, TreeIn, Fault, _>>=_, no-leaf, only-leaf}
+use Rattle.rings.proofs.Nodes.{_>>=_, no-leaf, only-leaf}
 use Rattle.rings.proofs.Align.{Two, align-two, paths-more}
 use Rattle.rings.proofs.Gaps.{Gap, gap-positive, gap-apart}
-use Rattle.rings.proofs.Items.{AllRecords, record-at, insert-ascending, insert-all, remove-head, remove-ascending, remove-all}
+use Rattle.rings.proofs.Items.{record-at, insert-ascending, insert-all, remove-head, remove-ascending, remove-all}
 use Rattle.rings.proofs.Ring.{leaf-item, gap-free}
 use Rattle.rings.proofs.Find.{item-leaf}
 use Rattle.rings.proofs.RingChanges.{remove-ring, insert-ring}
 use Rattle.rings.proofs.Steps.{steps-append, legal-append, reversed-append, reversed-reversed}
-use Rattle.rings.proofs.Records.{hashRecord, hash-empty, Known, known-empty, no-record}
-use Rattle.rings.proofs.Memos.{MeansU2, Leads, MeansEI}
+use Rattle.rings.proofs.Records.{hash-empty, no-record}
 
 module _ (D : Str → Dig) where
   abbrev ringOf : List (Item Record) → List Leaf

@@ -7,13 +7,12 @@ use Rattle.paper.specs.declared.Record.{Record}
 use Rattle.paper.specs.Strings.{Dig, Str}
 use Rattle.rings.specs.Trees.{points, Tree, empty, tip, branch, leaves, Permuted}
 use Rattle.rings.specs.Lists.{Item, item, ring}
+use Rattle.rings.specs.Meanings.{AllRecords, hash, TreeIn, hashRecord, Known, StandsFor, Fault}
 use Rattle.rings.proofs.Counting.{count-append}
-use Rattle.rings.proofs.Nodes.{hash, TreeIn, Fault, _>>=_, no-leaf, only-leaf}
+use Rattle.rings.proofs.Nodes.{_>>=_, no-leaf, only-leaf}
 use Rattle.rings.proofs.Align.{split}
-use Rattle.rings.proofs.Items.{AllRecords, record-at, Into, same-items}
+use Rattle.rings.proofs.Items.{record-at, Into, same-items}
 use Rattle.rings.proofs.Find.{item-leaf}
-use Rattle.rings.proofs.Records.{hashRecord, Known}
-use Rattle.rings.proofs.Memos.{StandsFor}
 use Rattle.rings.proofs.ListKinds.{leaf-record}
 
 module _ (D : Str → Dig) where

@@ -1,9 +1,8 @@
 -- What kinds 02 to 05 do to the meanings of memoranda: witness, join, pair and raise put paths together.
 use mathlib.Core.List.{List, [], _++_}
 use Rattle.paper.specs.Strings.{Dig, Str}
-use Rattle.rings.proofs.Nodes.{above, NodeIn}
-use Rattle.rings.proofs.Align.{fold, fold-append, path-append}
-use Rattle.rings.proofs.Memos.{MeansU1, MeansV1, MeansU2}
+use Rattle.rings.specs.Meanings.{above, NodeIn, fold, MeansU1, MeansV1, MeansU2}
+use Rattle.rings.proofs.Align.{fold-append, path-append}
 
 module _ (D : Str → Dig) where
   pub witness : {F : List Str} {x y : Dig} → MeansU1 D F x y x y → MeansV1 D F x y

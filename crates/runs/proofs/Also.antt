@@ -17,7 +17,7 @@ use Rattle.rings.proofs.Endings.{fault-shows}
 use Rattle.rings.proofs.InPaper.{same-list}
 use Rattle.runs.specs.Run.{Issue, standsFor, isIssued, issuedBy, toldAt, after}
 use Rattle.runs.specs.Safety.{SafeOrEnded}
-use Rattle.runs.specs.Also.{onwards, RootSettlesList, NoOtherWayOut, HonestReplayed, EarliestStays, AlsoFor, Also}
+use Rattle.runs.specs.Also.{onwards, RootSettlesList, NoOtherWayOut, HonestReplayed, EarliestStays, MemorandaMean, AlsoFor, Also}
 use Rattle.runs.proofs.Formed.{well-at, well-append}
 use Rattle.runs.proofs.Sides.{side}
 use Rattle.runs.proofs.Runs.{run, stands-of, safety}
@@ -79,6 +79,13 @@ honest-replayed D D32 k ts us T x g =
     sorted-out (inl (inr b)) = inr (inl b)
     sorted-out (inr c) = inr (inr c)
 
+-- ── what the memoranda mean ──
+
+memoranda-mean : (D : List ℕ → Dig) → ((l : List ℕ) → length (D l) ≡ 32) → MemorandaMean D
+memoranda-mean D D32 k ts = do
+  c ← run D D32 k ts
+  inr (c .0 .book)
+
 also-for : (D : List ℕ → Dig) → ((l : List ℕ) → length (D l) ≡ 32) → AlsoFor D
 also-for D D32 =
     record {
@@ -91,6 +98,7 @@ also-for D D32 =
       honest-ends-nothing = honest-ends-nothing D;
       honest-replayed = honest-replayed D D32;
       book-grows = book-grows D D32;
+      memoranda-mean = memoranda-mean D D32;
       earliest-stays = earliest-stays D;
     }
 

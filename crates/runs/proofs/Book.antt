@@ -7,8 +7,10 @@ use Prim.Native.Nat.{ℕ}
 use Rattle.seqs.specs.Choose.{pick, either}
 use Rattle.seqs.specs.Bytes.{same, same-true}
 use Rattle.paper.specs.Strings.{Dig, Memo, Str, leaf, node, entry, memo, digest}
-use Rattle.rings.proofs.Nodes.{_∈_, Within, Fault, _>>=_, instead, same-string}
-use Rattle.rings.proofs.Memos.{Means, means-more}
+use Rattle.rings.specs.Meanings.{_∈_, Within, Fault, Means}
+use Rattle.rings.proofs.Nodes.{_>>=_, instead, same-string}
+use Rattle.rings.proofs.Memos.{means-more}
+use Rattle.runs.specs.Also.{Backed, AllBacked}
 use Rattle.runs.specs.Run.{Issue, Reading, earliest, last, entered, standsFor, isIssued}
 
 -- what a string says where it is a memorandum's
@@ -23,22 +25,11 @@ entered-none earliest b = append-nil b
 entered-none last b = refl
 
 module _ (D : List ℕ → Dig) where
-  pub record Backed (F : List Str) (i : Issue) : Type 0 where
-    pub says : Memo
-    pub key : Dig
-    pub formed : memo says key ∈ F
-    pub memorandum-is : digest D (memo says key) ≡ i .memorandum
-    pub means : Means (digest D) F says (i .does)
-
-  abbrev pub Book : List Str → List Issue → Type 0
-  Book F [] = Unit {0}
-  Book F (i ∷ b) = Backed F i × Book F b
-
-  pub book-more : {F G : List Str} (b : List Issue) → Within F G → Book F b → Book G b
+  pub book-more : {F G : List Str} (b : List Issue) → Within F G → AllBacked D F b → AllBacked D G b
   book-more [] s h = tt
   book-more {F} {G} (i ∷ b) s h = (backed (h .0), book-more b s (h .1))
     where
-      backed : Backed F i → Backed G i
+      backed : Backed D F i → Backed D G i
       backed e =
           record {
             says = e .says;
@@ -48,19 +39,19 @@ module _ (D : List ℕ → Dig) where
             means = means-more (digest D) (e .says) (i .does) s (e .means);
           }
 
-  book-add : {F : List Str} (b : List Issue) (i : Issue) → Book F b → Backed F i → Book F (b ++ (i ∷ []))
+  book-add : {F : List Str} (b : List Issue) (i : Issue) → AllBacked D F b → Backed D F i → AllBacked D F (b ++ (i ∷ []))
   book-add [] i h e = (e, tt)
   book-add (j ∷ b) i h e = (h .0, book-add b i (h .1) e)
 
   -- an entry more, or none, whichever way the book is read
-  pub book-enter : {F : List Str} (by : Reading) (b : List Issue) (i : Issue) → Book F b → Backed F i
-      → Book F (entered by b (i ∷ []))
+  pub book-enter : {F : List Str} (by : Reading) (b : List Issue) (i : Issue) → AllBacked D F b → Backed D F i
+      → AllBacked D F (entered by b (i ∷ []))
   book-enter earliest b i h e = book-add b i h e
   book-enter last b i h e = (e, h)
 
   -- A memorandum with a formed string: what the string says is so and stands for what the book has, or the book does not
   -- have it, or a fault can be shown.
-  pub look : {F : List Str} (m : Dig) (t : Memo) (k : Dig) (b : List Issue) → Book F b → memo t k ∈ F → digest D (memo t k) ≡ m
+  pub look : {F : List Str} (m : Dig) (t : Memo) (k : Dig) (b : List Issue) → AllBacked D F b → memo t k ∈ F → digest D (memo t k) ≡ m
       → (Fault (digest D) F ⊎ (isIssued m b ≡ false)) ⊎ Means (digest D) F t (standsFor m b)
   look m t k [] h i e = inl (inr refl)
   look {F} m t k (j ∷ b) h i e = here (same (j .memorandum) m) refl (look m t k b (h .1) i e)

@@ -12,12 +12,13 @@ use Rattle.paper.specs.Strings.{Dig, Memo, Str, memo, digest}
 use Rattle.paper.specs.Requests.{Request}
 use Rattle.paper.specs.Refusals.{Check, noneFits, tried, needs, carried}
 use Rattle.paper.specs.Answers.{answer}
-use Rattle.rings.proofs.Nodes.{_∈_, Within, Fault, _>>=_, instead}
-use Rattle.rings.proofs.Memos.{Means}
+use Rattle.rings.specs.Meanings.{_∈_, Within, Fault, Means}
+use Rattle.rings.proofs.Nodes.{_>>=_, instead}
 use Rattle.runs.specs.Run.{World, standsFor, isIssued}
+use Rattle.runs.specs.Also.{AllBacked}
 use Rattle.runs.proofs.Accepted.{NoneFails}
 use Rattle.runs.proofs.Widths.{Wide}
-use Rattle.runs.proofs.Book.{Book, look}
+use Rattle.runs.proofs.Book.{look}
 
 -- ── places in a list of checks or of memoranda ──
 
@@ -61,7 +62,7 @@ module _ (D : List ℕ → Dig) (w : World) where
     abbrev pub Or : Request → Type 0 → Type 0
     Or q A = (Fault (digest D) G ⊎ Forgery q) ⊎ A
 
-    module _ (b : Book D G (w .book)) where
+    module _ (b : AllBacked D G (w .book)) where
       -- one that is the digest of a formed string
       taken : (q : Request) (t : Memo) (m : Dig) → List·Memᴰ m (carried D s q) → memo t key ∈ G → digest D (memo t key) ≡ m
           → Or q (Means (digest D) G t (standsFor m (w .book)))

@@ -9,7 +9,7 @@ use lib.ListN.{length}
 use Rattle.paper.specs.declared.Registers.{Registers}
 use Rattle.paper.specs.Strings.{Dig, Str}
 use Rattle.paper.specs.Refusals.{carried}
-use Rattle.rings.proofs.Nodes.{Within}
+use Rattle.rings.specs.Meanings.{Within}
 use Rattle.runs.specs.Run.{Turn, last, ofRuns, Issue, isIssued, World, toldAt, next, after}
 use Rattle.runs.specs.Endings.{Forged, Ending, collision, zero, forged, earlier}
 use Rattle.runs.specs.Liveness.{latestFirst, AllIssued, Honest}

@@ -17,7 +17,7 @@ use Rattle.paper.specs.Requests.{Request, kindOf, known, fits, requestOf}
 use Rattle.paper.specs.Refusals.{replyRoom, isHex, Check, needs, Verdict, refused, passed, formedBy, judge}
 use Rattle.paper.specs.Module.{Told, told, answerTo}
 use Rattle.paper.proofs.Early.{late, among, numbered, numbered-late, none-early}
-use Rattle.rings.proofs.Nodes.{Within}
+use Rattle.rings.specs.Meanings.{Within}
 use Rattle.runs.specs.Run.{Turn}
 use Rattle.runs.proofs.Accepted.{NoneFails, none-fails, judge-passed, accepted-passed, check-formed}
 use Rattle.runs.proofs.Widths.{Wide, wide}

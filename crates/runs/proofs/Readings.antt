@@ -13,14 +13,13 @@ use Rattle.paper.specs.Strings.{Dig, Str, digest}
 use Rattle.paper.specs.Refusals.{carried}
 use Rattle.paper.specs.Answers.{Effect, none′, issues, adopts, changes}
 use Rattle.paper.specs.Module.{Told, answerTo}
-use Rattle.rings.proofs.Nodes.{Fault, _>>=_, instead}
-use Rattle.rings.proofs.Memos.{StandsFor}
+use Rattle.rings.specs.Meanings.{StandsFor, Fault}
+use Rattle.rings.proofs.Nodes.{_>>=_, instead}
 use Rattle.rings.proofs.InPaper.{same-list}
 use Rattle.runs.specs.Run.{Turn, Issue, Reading, earliest, last, ofRuns, entered, isIssued, World, issuedBy, toldAt, next, after}
 use Rattle.runs.specs.Endings.{Ending, forged, earlier}
 use Rattle.runs.specs.Liveness.{latestFirst, fed}
-use Rattle.runs.specs.Also.{onwards, ReadingsAgree}
-use Rattle.runs.proofs.Book.{Book}
+use Rattle.runs.specs.Also.{AllBacked, onwards, ReadingsAgree}
 use Rattle.runs.proofs.Safe.{Core}
 use Rattle.runs.proofs.Lines.{asked}
 use Rattle.runs.proofs.Runs.{Out, line-out, shown, run}
@@ -116,7 +115,7 @@ module _ (D : List ℕ → Dig) (D32 : (l : List ℕ) → length (D l) ≡ 32) w
           }))
       by-out (inr x) = inr (x .0)
 
-  book-reversed : (F : List Str) (b c : List Issue) → Book D F b → Book D F c → Book D F (reverseAux b c)
+  book-reversed : (F : List Str) (b c : List Issue) → AllBacked D F b → AllBacked D F c → AllBacked D F (reverseAux b c)
   book-reversed F [] c h k = k
   book-reversed F (i ∷ b) c h k = book-reversed F b (i ∷ c) (h .1) (h .0, k)
 

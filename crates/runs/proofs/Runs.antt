@@ -13,7 +13,8 @@ use Rattle.paper.specs.Refusals.{refused}
 use Rattle.paper.specs.Answers.{answer}
 use Rattle.paper.specs.Module.{Told, told}
 use Rattle.rings.specs.Trees.{empty}
-use Rattle.rings.proofs.Nodes.{Fault, _>>=_, instead}
+use Rattle.rings.specs.Meanings.{Fault}
+use Rattle.rings.proofs.Nodes.{_>>=_, instead}
 use Rattle.rings.proofs.Endings.{fault-shows}
 use Rattle.rings.proofs.InPaper.{holds-ring}
 use Rattle.runs.specs.Run.{Turn, Reading, ofRuns, World, start, toldAt, landed, after}

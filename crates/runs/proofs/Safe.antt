@@ -23,9 +23,9 @@ use Rattle.paper.specs.Module.{Told, told}
 use Rattle.paper.specs.declared.Finding.the-variants.{Recorded, Listed, Gap}
 use Rattle.rings.specs.Trees.{Tree, hashOf}
 use Rattle.rings.specs.Lists.{item}
-use Rattle.rings.proofs.Nodes.{_∈_, Within, _>>=_, instead}
-use Rattle.rings.proofs.Memos.{Means, StandsFor, stands-more}
-use Rattle.rings.proofs.Records.{Known, known-empty, known-recorded}
+use Rattle.rings.specs.Meanings.{_∈_, Within, Known, known-empty, known-recorded, StandsFor, Means}
+use Rattle.rings.proofs.Nodes.{_>>=_, instead}
+use Rattle.rings.proofs.Memos.{stands-more}
 use Rattle.rings.proofs.Bridge.{hash-is, known-by}
 use Rattle.rings.proofs.Paths.{path}
 use Rattle.rings.proofs.TreeKinds as T
@@ -33,7 +33,8 @@ use Rattle.rings.proofs.RingKinds as R
 use Rattle.rings.proofs.InPaper as P
 use Rattle.runs.specs.Run.{Reading, Items, standsFor, meaning, World, landed}
 use Rattle.runs.specs.Safety.{TrueFinding, LegalEffect}
-use Rattle.runs.proofs.Book.{entered-none, Book, book-more, book-enter}
+use Rattle.runs.specs.Also.{AllBacked}
+use Rattle.runs.proofs.Book.{entered-none, book-more, book-enter}
 use Rattle.runs.proofs.Accepted.{opposite-false}
 use Rattle.runs.proofs.Carried as C
 use Rattle.runs.proofs.Carried.{at0, at1, at2, at5, at6, Given, Or}
@@ -76,7 +77,7 @@ module _ (D : List ℕ → Dig) (D32 : (l : List ℕ) → length (D l) ≡ 32) w
     pub tree : Tree
     pub root : hashOf D tree ≡ w .registers .root
     pub stands : StandsFor (digest D) (w .formed) tree (w .items)
-    pub book : Book D (w .formed) (w .book)
+    pub book : AllBacked D (w .formed) (w .book)
     pub counter : w .registers .counter .0 ≡ w .changed
 
   -- strings formed stay formed
@@ -136,7 +137,7 @@ module _ (D : List ℕ → Dig) (D32 : (l : List ℕ) → length (D l) ≡ 32) w
     abbrev Comes : Request → Type 0
     Comes q = Or D w (G q) q (Core (landed D by w (a q)) × TrueFor D q (w .items) × LegalEffect D w (a q .effect))
 
-    backed : (q : Request) → Book D (G q) (w .book)
+    backed : (q : Request) → AllBacked D (G q) (w .book)
     backed q = book-more D (w .book) (more (a q) w) (v .book)
 
     standing : (q : Request) → StandsFor dig (G q) (v .tree) (w .items)

@@ -17,11 +17,10 @@ use Rattle.paper.specs.Strings.{Dig, Str, leaf, entry, digest, emptyRecord, mal
 use Rattle.paper.specs.Refusals.{top, nextRecord}
 use Rattle.rings.specs.Trees.{points, Tree, empty, tip, branch, leaves, count}
 use Rattle.rings.specs.Lists.{item, Ascending, Listed, insert, remove, putRecord}
+use Rattle.rings.specs.Meanings.{_∈_, TreeIn, hashRecord, Known, known-empty, known-recorded}
 use Rattle.rings.proofs.Counting.{count-nil, count-append, count-single}
-use Rattle.rings.proofs.Nodes.{_∈_, TreeIn}
 use Rattle.rings.proofs.Items.{record-at, listed-above}
 use Rattle.rings.proofs.Find.{item-leaf}
-use Rattle.rings.proofs.Records.{hashRecord, Known, known-empty, known-recorded}
 use Rattle.rings.proofs.Bridge.{known-passes}
 use Rattle.runs.specs.Run.{Items, World}
 use Rattle.runs.specs.Sizes.{InEightBytes, ValuesFit, RecordFits, ItemFits, ItemsFit}

@@ -1,6 +1,7 @@
 -- What else holds of runs: the root settles the list; both readings of memoranda come to one list, so that honest lines do for
 -- the replay of runs what they do by their own reading; the endings are the only way out, and neither opening nor honest lines
--- are one; the book grows by the memoranda that replies list; and what is read by the earliest line stays as that line meant it.
+-- are one; the book grows by the memoranda that replies list, and each means what it says; and what is read by the earliest line
+-- stays as that line meant it.
 use mathlib.Core.Path.{_≡_}
 use mathlib.Core.Bool.{true, false}
 use mathlib.Core.List.{List, [], _∷_, _++_}
@@ -9,11 +10,12 @@ use Prim.Native.Nat.{ℕ, _-_, _≤_}
 use lib.ListN.{length, drop}
 use Rattle.sha256.specs.Hash.{sha256}
 use Rattle.hex.specs.Hex.{bytesOf}
-use Rattle.paper.specs.Strings.{Dig, Str}
+use Rattle.paper.specs.Strings.{Dig, Memo, Str, memo, digest}
 use Rattle.paper.specs.Requests.{kindOf}
 use Rattle.paper.specs.Collisions.{Collision}
 use Rattle.rings.specs.Trees.{Tree}
 use Rattle.rings.specs.Endings.{ZeroDigest}
+use Rattle.rings.specs.Meanings.{_∈_, Means}
 use Rattle.runs.specs.Run.{Turn, Items, Issue, standsFor, isIssued, World, toldAt, after}
 use Rattle.runs.specs.Endings.{Forged, Ending}
 use Rattle.runs.specs.Safety.{Stands, Safe}
@@ -113,6 +115,22 @@ module _ (D : List ℕ → Dig) where
   abbrev pub BookGrows : Type 0
   BookGrows = (k : Dig) (ts : List Turn) (t : Turn) → Entered (after D k ts) t (after D k (t ∷ ts) .book)
 
+  -- Every memorandum issued so far means what it says: it is the digest of a string that was formed, of what it says and a secret,
+  -- and that is so by the strings formed, an EI standing for what the line that issued it does; or the run has ended.
+  pub record Backed (F : List Str) (i : Issue) : Type 0 where
+    pub says : Memo
+    pub key : Dig
+    pub formed : memo says key ∈ F
+    pub memorandum-is : digest D (memo says key) ≡ i .memorandum
+    pub means : Means (digest D) F says (i .does)
+
+  abbrev pub AllBacked : List Str → List Issue → Type 0
+  AllBacked F [] = Unit {0}
+  AllBacked F (i ∷ b) = Backed F i × AllBacked F b
+
+  abbrev pub MemorandaMean : Type 0
+  MemorandaMean = (k : Dig) (ts : List Turn) → Ending D k ts ⊎ AllBacked (after D k ts .formed) (after D k ts .book)
+
   pub record AlsoFor : Type 0 where
     pub root-settles : RootSettlesList
     pub readings-agree : ReadingsAgree
@@ -123,6 +141,7 @@ module _ (D : List ℕ → Dig) where
     pub honest-ends-nothing : HonestEndsNothing
     pub honest-replayed : HonestReplayed
     pub book-grows : BookGrows
+    pub memoranda-mean : MemorandaMean
     pub earliest-stays : EarliestStays
 
 -- for SHA-256, and for any digest of 32 bytes
