@@ -19,6 +19,7 @@ use Rattle.paper.specs.Strings.{Dig}
 use Rattle.paper.specs.Module.{unopened, answerTo, replyLine, spaceAfter}
 use Rattle.paper.specs.Refusals.{replyRoom, top}
 use Rattle.paper.proofs.Room.{room}
+use Rattle.lines.proofs.Follows.{read-is-first, write-is-first}
 use Rattle.lines.proofs.RoundTrip.{written-reads, read-writes, one-line}
 use Rattle.module.specs.declared.Answered.{Answered}
 use Rattle.module.specs.Answering.{answeredOf}
@@ -26,6 +27,7 @@ use Rattle.module.proofs.Follows.{refusal-is-first, refusal-keeps, only-the-rep
 use Rattle.runs.specs.Run.{Turn, after}
 use Rattle.runs.proofs.Runs.{safety}
 use Rattle.runs.proofs.Live.{liveness}
+use Rattle.runs.proofs.Also.{also}
 use Rattle.session.specs.Replies.{toldOf, registersAfter}
 use Rattle.session.proofs.Whole.{registers-append}
 use Rattle.demands.specs.Demands.{Call, standing, Kept, turnsOf, OneReply, First, AsDefined, Second, RepliedAlong, Holds, ByValue, InPlace, MeetsByValue, MeetsInPlace, Input, callsByValue, callsInPlace, spaced, inOrder, Third, Demands}
@@ -107,6 +109,8 @@ demands =
       demand-1 = record {
         one-reply = one-reply;
         first-to-apply = refusal-is-first;
+        reading = read-is-first;
+        writing = write-is-first;
         refusal-keeps = refusal-keeps;
         only-the-reply = only-the-reply;
         reply-fits = reply-fits;
@@ -125,6 +129,8 @@ demands =
         any-calls = holds;
         by-value = λ m h k is. holds k (callsByValue m k is) (kept-by-value m h k is);
         in-place = λ m h k is. holds k (callsInPlace m k is) (kept-in-place m h k is);
+        also = also .at-sha256;
+        anywhere = liveness .at-sha256 .anywhere;
         in-session = in-session;
       };
     }

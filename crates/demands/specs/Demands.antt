@@ -13,6 +13,7 @@ use Rattle.paper.specs.declared.Registers.{Registers}
 use Rattle.paper.specs.Strings.{Dig, cost}
 use Rattle.paper.specs.Refusals.{replyRoom, top}
 use Rattle.paper.specs.Module.{unopened, answerTo, replyLine, spaceAfter}
+use Rattle.lines.specs.Laws.{ReadIsFirst, WriteIsFirst}
 use Rattle.lines.specs.RoundTrip.{WrittenReads, ReadWrites, OneLine}
 use Rattle.module.specs.declared.Answered.{Answered}
 use Rattle.module.specs.declared.Replied.{Replied}
@@ -21,7 +22,8 @@ use Rattle.module.specs.Laws.{Promised, RefusalIsFirst, RefusalKeeps, OnlyTheRe
 use Rattle.runs.specs.Run.{Turn, after}
 use Rattle.runs.specs.Endings.{Ending}
 use Rattle.runs.specs.Safety.{Safe}
-use Rattle.runs.specs.Liveness.{Live}
+use Rattle.runs.specs.Liveness.{AllGrantable, Live}
+use Rattle.runs.specs.Also.{AlsoFor}
 use Rattle.session.specs.Replies.{registersAfter}
 
 -- ── what the demands are of ──
@@ -61,6 +63,9 @@ pub record First : Type 0 where
   pub one-reply : OneReply
   -- "Each refusal is one of the fifteen .. given exactly when its condition is the first to apply"
   pub first-to-apply : RefusalIsFirst
+  -- of the line's reader and the frame's writer alike, in their order
+  pub reading : ReadIsFirst
+  pub writing : WriteIsFirst
   -- "After it root, counter and secret are unchanged, and only the reply's own bytes are written"
   pub refusal-keeps : RefusalKeeps
   pub only-the-reply : OnlyTheReply
@@ -160,6 +165,10 @@ pub record Third : Type 0 where
   -- so any function that meets it, by value or in place
   pub by-value : (m : ByValue) → MeetsByValue m → (k : Dig) (is : List Input) → Holds k (callsByValue m k is)
   pub in-place : (m : InPlace) → MeetsInPlace m → (k : Dig) (is : List Input) → Holds k (callsInPlace m k is)
+  -- what an ending is and is not, that the root settles the list, what every memorandum means, and the other laws of runs
+  pub also : AlsoFor sha256
+  -- honest lines from any registers, tree and list that stand, with no run before them
+  pub anywhere : AllGrantable sha256
   -- and the registers along a session's lines (`session::serve`) are a run's
   pub in-session : (k : Dig) (ls : List (List ℕ)) → registersAfter (unopened k) (inOrder ls) ≡ after sha256 k (spaced ls) .registers
 
