@@ -3,31 +3,33 @@
 use mathlib.Core.Path.{_≡_, refl, sym, ap, subst, _∙_}
 use mathlib.Core.Bool.{Bool, true, false, not, true≢false}
 use mathlib.Core.List.{List, [], _∷_, _++_}
-use Prim.Native.Nat.{ℕ, _-_, _≤_}
+use Prim.Native.Nat.{ℕ, _-_, _<_, _≤_}
 use native.Mathlib.Omega.{arith}
-use lib.ListN.{length, take, drop, drop-of-length-le}
-use Rattle.pieces.specs.Whole.{foundIn}
+use lib.ListN.{length, take, drop, length-take, length-drop, drop-of-length-le}
+use lib.Seq.{take-at, length-take-le}
+use Rattle.seqs.specs.Over.{putAt, Front, front-next}
+use Rattle.pieces.specs.Whole.{lastOf, endedIn, foundIn}
 use Rattle.paper.specs.declared.Registers.{Registers}
 use Rattle.paper.specs.Strings.{nought}
 use Rattle.paper.specs.Module.{unopened}
 use Rattle.session.specs.Replies.{repliesTo, registersAfter}
-use Rattle.session.proofs.Whole.{Rest, Answers, registers-append}
+use Rattle.session.proofs.Whole.{Rest, Leads, registers-append}
 use Rattle.knotcinder.specs.declared.Left.{Left}
-use Rattle.knotcinder.specs.Loop.{Replies, Place, behind, behindAll, Standing, Through}
+use Rattle.knotcinder.specs.Loop.{Reached, Due, Place, behind, behindAll, Standing, Through}
 
 -- ── a piece ──
 
-module _ (p : List ℕ) (at : ℕ) (s s′ : Registers) (d d′ : List ℕ) (n n′ : ℕ)
-    (r : Rest p s d n (drop at p) s′ d′ n′) (l : length d′ ≡ length d) where
-  pub through : length p ≤ at → Through s p d n (record { registers = s′; held = n′; written = true }) d′
-  through h =
+module _ (p : List ℕ) (s s′ : Registers) (d d′ : List ℕ) (n n′ : ℕ) where
+  pub through : (at : ℕ) → Rest p s d n (drop at p) s′ d′ n′ → length d′ ≡ length d → length p ≤ at
+      → Through s p d n (record { registers = s′; held = n′; written = true }) d′
+  through at r l h =
       let f = subst (λ (x : List ℕ). Rest p s d n x s′ d′ n′) (drop-of-length-le p h) r in
       record { fits = omega (arith, f .fits); registers = λ _. f .regs; line = λ _. f .space; held = λ _. f .held }
 
-  pub stopped : Through s p d n (record { registers = s′; held = n′; written = false }) d′
-  stopped =
+  pub stopped : n′ ≤ length d → Through s p d n (record { registers = s′; held = n′; written = false }) d′
+  stopped h =
       record {
-        fits = omega (arith, r .fits);
+        fits = h;
         registers = λ e. absurd (true≢false (sym e));
         line = λ e. absurd (true≢false (sym e));
         held = λ e. absurd (true≢false (sym e));
@@ -54,11 +56,6 @@ standing-next {p = p} {o = o} t g h =
 
 -- ── what is written ──
 
--- Registers that some lines lead to from a module that nobody has opened.
-pub record Reached (s : Registers) : Type 0 where
-  pub lines : List (List ℕ)
-  pub after : s ≡ registersAfter (unopened nought) lines
-
 found-in : (ps : List (List ℕ)) (d : List ℕ) → Reached (behindAll ps d .registers)
 found-in [] d = record { lines = []; after = refl }
 found-in (p ∷ ps) d =
@@ -75,7 +72,7 @@ pub standing-reached : {s : Registers} {d : List ℕ} {n : ℕ} → Standing s d
 standing-reached t =
     subst (λ (x : Registers). Reached x) (ap (λ (x : Place). x .registers) (t .reached)) (found-in (t .pieces) (t .space))
 
-pub reached-next : {s s′ : Registers} {b : List ℕ} → Reached s → Answers s b s′ → Reached s′
+pub reached-next : {s s′ : Registers} → Reached s → Leads s s′ → Reached s′
 reached-next f a =
     record {
       lines = f .lines ++ a .lines;
@@ -84,9 +81,34 @@ reached-next f a =
           ∙ sym (registers-append (unopened nought) (f .lines) (a .lines));
     }
 
--- the first w bytes of the output, as the part of it from 0 to w
-pub replies : {s : Registers} (w : ℕ) (out : List ℕ) (lines : List (List ℕ)) → Reached s → take w out ≡ repliesTo s lines
-    → Replies (take (w - 0) out)
-replies w out lines f e =
-    let z : w - 0 ≡ w = omega arith in
-    rw z (record { earlier = f .lines; lines = lines; bytes = e ∙ ap (λ (x : Registers). repliesTo x lines) (f .after) })
+-- a space over whose front the first n bytes of d were put
+kept-front : (d k e : List ℕ) (n : ℕ) → n ≤ length d → length d ≤ length k → e ≡ putAt k 0 (take (n - 0) d)
+    → take (n - 0) e ≡ take n d
+kept-front d k e n h j f =
+    let z : n - 0 ≡ n = omega arith in
+    let long : length (take n d) ≡ n = length-take-le n d h in
+    let start : Front k k [] 0 = record { here = refl; long = refl } in
+    let front = front-next e (take n d) n n start (rw z at f) long (omega arith) (omega arith) in
+    rw (z, front .here) (take-at (take n d) (drop n k) n long)
+
+module _ {s : Registers} (reached : Reached s) where
+  -- behind a call of `serve`, with what was held before it kept in e
+  pub due-served : (p d k e out : List ℕ) (at next n w : ℕ)
+      → n ≤ length d → length d ≤ length k → e ≡ putAt k 0 (take (n - 0) d) → at < next → next ≤ length p
+      → take w out ≡ repliesTo s (endedIn (take n d) (take (next - at) (drop at p)))
+      → Due s (take (n - 0) e) (take (next - at) (drop at p)) (take (w - 0) out)
+  due-served p d k e out at next n w h j f on upto bytes =
+      let z : w - 0 ≡ w = omega arith in
+      let part = take (next - at) (drop at p) in
+      record {
+        reached = reached;
+        onward = simp (length-take, length-drop) (omega arith);
+        bytes = rw z (bytes ∙ ap (λ (l : List ℕ). repliesTo s (endedIn l part)) (sym (kept-front d k e n h j f)));
+      }
+
+  -- at the end of the input, with something held
+  pub due-last : (l out : List ℕ) (w : ℕ) → 0 < length l → take w out ≡ repliesTo s (lastOf l) → Due s l (0x0a ∷ []) (take (w - 0) out)
+  due-last [] out w h e = absurd (omega arith)
+  due-last (b ∷ l) out w h e =
+      let z : w - 0 ≡ w = omega arith in
+      record { reached = reached; onward = omega arith; bytes = rw z e }

@@ -4,9 +4,9 @@
 use mathlib.Core.Path.{_≡_}
 use mathlib.Core.Bool.{true}
 use mathlib.Core.List.{List, [], _∷_}
-use Prim.Native.Nat.{ℕ, _≤_}
+use Prim.Native.Nat.{ℕ, _<_, _≤_}
 use lib.ListN.{length}
-use Rattle.pieces.specs.Whole.{foundIn, spaceLeft, heldLeft}
+use Rattle.pieces.specs.Whole.{endedIn, foundIn, spaceLeft, heldLeft}
 use Rattle.paper.specs.declared.Registers.{Registers}
 use Rattle.paper.specs.Strings.{nought}
 use Rattle.paper.specs.Module.{unopened}
@@ -15,11 +15,18 @@ use Rattle.knotcinder.specs.declared.Left.{Left}
 
 -- ── what may be written ──
 
--- The bytes b are reply lines: those to some lines that follow others from a module that nobody has opened.
-pub record Replies (b : List ℕ) : Type 0 where
-  pub earlier : List (List ℕ)
+-- Registers that some lines lead to from a module that nobody has opened.
+pub record Reached (s : Registers) : Type 0 where
   pub lines : List (List ℕ)
-  pub bytes : b ≡ repliesTo (registersAfter (unopened nought) earlier) lines
+  pub after : s ≡ registersAfter (unopened nought) lines
+
+-- A session stands at registers s with the bytes `held` of a line, and went through the bytes `part` of its input behind these:
+-- then b is due, exactly the replies to the lines that end in the part, each on the registers that the one before it left.
+-- So there is one b that may be written, and it is empty only where no line ends in the part. The part is not empty.
+pub record Due (s : Registers) (held part b : List ℕ) : Type 0 where
+  pub reached : Reached s
+  pub onward : 0 < length part
+  pub bytes : b ≡ repliesTo s (endedIn held part)
 
 -- ── where a call may start from ──
 

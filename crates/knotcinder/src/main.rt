@@ -4,7 +4,7 @@
 use paper::Registers;
 ghost use Prim.Native.Nat.{_<_, _≤_};
 ghost use lib.ListN.{length};
-ghost use Rattle.knotcinder.specs.Loop.{Replies, Standing, Through};
+ghost use Rattle.knotcinder.specs.Loop.{Due, Standing, Through};
 
 // What a piece of input left: the registers, how many bytes are held of a line, and whether its replies could be written.
 struct Left {
@@ -14,17 +14,27 @@ struct Left {
 }
 
 // The one place that writes. No contract can say what a call of the system does with these bytes; so the caller has to show
-// that they are reply lines.
-fn say(replies: &[u8]) -> bool
-    requires { ⌜ Replies (now replies) ⌝ }
+// that they are exactly the replies due, and hands over what shows it: the registers before, the bytes held of a line, and the
+// part of the input behind them that the replies are for.
+fn say(r: Registers, held: &[u8], part: &[u8], replies: &[u8]) -> bool
+    requires { ⌜ Due r (now held) (now part) (now replies) ⌝ }
 {
     io::write_all(1, replies)
 }
 
-// Answers a piece of input: as long as it has bytes left, lines are served and their replies written.
+// Answers a piece of input: as long as it has bytes left, lines are served and their replies written. What is held before a
+// call of `serve` is kept, as the call goes over the line's space.
 // The caller has to show that a session can stand here, and spaces as the law of a whole input asks for them; so in `end`.
-fn serve_piece(r: Registers, piece: &[u8], line: &mut [u8], held: usize, out: &mut [u8]) -> Left
-    requires { ⌜ (held ≤ length (now line)) × (4244 < length (now line)) × (195 ≤ length (now out)) ⌝ }
+fn serve_piece(
+    r: Registers,
+    piece: &[u8],
+    line: &mut [u8],
+    held: usize,
+    kept: &mut [u8],
+    out: &mut [u8],
+) -> Left
+    requires { ⌜ (held ≤ length (now line)) × (4244 < length (now line)) × (length (now line) ≤ length (now kept))
+        × (195 ≤ length (now out)) ⌝ }
     requires { ⌜ Standing r (now line) held ⌝ }
     ensures { λ o. ⌜ Through r (now (piece .entry)) (now (line .entry)) held o (now (line .exit)) ⌝ }
 {
@@ -32,19 +42,21 @@ fn serve_piece(r: Registers, piece: &[u8], line: &mut [u8], held: usize, out: &m
     let mut at: usize = 0;
     let mut n = held;
     while at < piece.len() {
+        fields::put(kept, 0, &line[0..n]);
         let o = session::serve(registers, piece, at, line, n, out);
-        let after = o.registers;
+        let next = o.next;
         let w = o.written;
-        registers = after;
-        at = o.next;
-        n = o.held;
-        if !say(&out[0..w]) {
+        if !say(registers, &kept[0..n], &piece[at..next], &out[0..w]) {
             return Left {
                 registers,
                 held: n,
                 written: false,
             };
         }
+        let after = o.registers;
+        registers = after;
+        at = next;
+        n = o.held;
     }
     Left {
         registers,
@@ -53,21 +65,23 @@ fn serve_piece(r: Registers, piece: &[u8], line: &mut [u8], held: usize, out: &m
     }
 }
 
-// Answers a last line without 0A.
+// Answers a last line without 0A, if anything is held of one, "as if 0A followed".
 fn end(r: Registers, line: &[u8], held: usize, out: &mut [u8])
-    requires { ⌜ (4244 < length (now line)) × (195 ≤ length (now out)) ⌝ }
+    requires { ⌜ (held ≤ length (now line)) × (4244 < length (now line)) × (195 ≤ length (now out)) ⌝ }
     requires { ⌜ Standing r (now line) held ⌝ }
 {
     let a = session::finish(r, line, held, out);
     let n = a.length;
-    say(&out[0..n]);
+    if 0 < held {
+        say(r, &line[0..held], b"\n", &out[0..n]);
+    }
 }
 
 // Reads to the end of the input. Where a read or a write fails it stops; what is then held of a line is not answered, as
 // nobody knows how that line goes on.
 // A proved loop has to end, and nothing says that input does: the turns are counted down from a number that no run uses up.
-fn run(input: &mut [u8], line: &mut [u8], out: &mut [u8])
-    requires { ⌜ (4244 < length (now line)) × (195 ≤ length (now out)) ⌝ }
+fn run(input: &mut [u8], line: &mut [u8], kept: &mut [u8], out: &mut [u8])
+    requires { ⌜ (4244 < length (now line)) × (length (now line) ≤ length (now kept)) × (195 ≤ length (now out)) ⌝ }
 {
     let mut registers = session::fresh();
     let mut held: usize = 0;
@@ -82,7 +96,7 @@ fn run(input: &mut [u8], line: &mut [u8], out: &mut [u8])
             end(registers, line, held, out);
             return;
         }
-        let left = serve_piece(registers, &input[0..n], line, held, out);
+        let left = serve_piece(registers, &input[0..n], line, held, kept, out);
         if !left.written {
             return;
         }
@@ -97,6 +111,7 @@ fn run(input: &mut [u8], line: &mut [u8], out: &mut [u8])
 fn main() {
     let mut input = io::large_buffer();
     let mut line = [0u8; 4245];
+    let mut kept = [0u8; 4245];
     let mut out = io::large_buffer();
-    run(&mut input, &mut line, &mut out);
+    run(&mut input, &mut line, &mut kept, &mut out);
 }

@@ -13,7 +13,7 @@ use lib.Seq.{take-all, take-nil, take-append-le, take-suc-set, drop-drop}
 use Rattle.seqs.specs.Choose.{pick}
 use Rattle.pieces.specs.declared.Cut.the-variants.{Line, More}
 use Rattle.pieces.specs.Cutting.{cutOf, spaceOf}
-use Rattle.pieces.specs.Whole.{lastOf, linesFrom, linesOf, cutTo, foundIn, spaceLeft, heldLeft, foundInAll}
+use Rattle.pieces.specs.Whole.{lastOf, linesFrom, linesOf, endedIn, cutTo, foundIn, spaceLeft, heldLeft, foundInAll}
 
 -- ── what one call of `next_line` tells of the rest of the piece ──
 
@@ -112,6 +112,34 @@ module _ (room : ℕ) (d : List ℕ) (n : ℕ) (l : List ℕ) (b : ℕ) (h : Hel
       let c : n ≡ min room (length l) = h .count ∙ length-take room l in
       let same : take room (l ++ (b ∷ [])) ≡ take room l = take-append-le room l (b ∷ []) (omega arith) in
       record { size = h .size; front = rw same (h .front); count = rw same (h .count) }
+
+-- ── a piece ──
+
+-- what is found in it are the lines that end in it, each cut to the space's length
+abbrev Ends : (room : ℕ) (p d : List ℕ) (n : ℕ) (l : List ℕ) → Type 0
+Ends room p d n l = foundIn p d n ≡ cutTo room (endedIn l p)
+
+ends-by : (room : ℕ) (p d : List ℕ) (n : ℕ) (l : List ℕ) (b : ℕ) (u v : Bool)
+    → eqb b 0x0a ≡ u → ltb n (length d) ≡ v → Held room d n l
+    → ((e : List ℕ) (k : ℕ) (m : List ℕ) → Held room e k m → Ends room p e k m)
+    → Ends room (b ∷ p) d n l
+ends-by room p d n l b true v eu ev h ih = rw (eu, h .front, ih d 0 [] (held-none room d (h .size)))
+ends-by room p d n l b false true eu ev h ih =
+    let e = h .size in
+    rw (eu, ev) (ih (set d n b) (n + 1) (l ++ (b ∷ [])) (held-room room d n l b h (omega (arith, ltb-true))))
+ends-by room p d n l b false false eu ev h ih =
+    let e = h .size in
+    rw (eu, ev) (ih d n (l ++ (b ∷ [])) (held-full room d n l b h (omega (arith, ltb-false))))
+
+ends : (room : ℕ) (p d : List ℕ) (n : ℕ) (l : List ℕ) → Held room d n l → Ends room p d n l
+ends room [] d n l h = refl
+ends room (b ∷ p) d n l h = ends-by room p d n l b (eqb b 0x0a) (ltb n (length d)) refl refl h (ends room p)
+
+pub found-ended : (p d : List ℕ) (n : ℕ) → n ≤ length d → foundIn p d n ≡ cutTo (length d) (endedIn (take n d) p)
+found-ended p d n h =
+    let long : length (take n d) ≡ n = length-take n d ∙ omega arith in
+    let whole : take (length d) (take n d) ≡ take n d = take-all (length d) (take n d) (omega arith) in
+    ends (length d) p d n (take n d) (record { size = refl; front = sym whole; count = rw whole (sym long) })
 
 -- ── the law ──
 

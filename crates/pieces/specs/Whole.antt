@@ -24,6 +24,12 @@ linesFrom l (b ∷ s) = pick (eqb b 0x0a) (l ∷ linesFrom [] s) (linesFrom (l +
 abbrev pub linesOf : List ℕ → List (List ℕ)
 linesOf s = linesFrom [] s
 
+-- the lines that end in a part of an input, l being what was read since the last 0A before it: what follows the last 0A in
+-- the part is no line yet
+abbrev pub endedIn : List ℕ → List ℕ → List (List ℕ)
+endedIn l [] = []
+endedIn l (b ∷ s) = pick (eqb b 0x0a) (l ∷ endedIn [] s) (endedIn (l ++ (b ∷ [])) s)
+
 -- every line cut to its first `room` bytes
 abbrev pub cutTo : ℕ → List (List ℕ) → List (List ℕ)
 cutTo room ls = map (take room) ls

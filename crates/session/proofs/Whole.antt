@@ -12,8 +12,8 @@ use lib.Dec.{eqb, ltb}
 use lib.ListN.{length, take, drop, set, length-append, length-take, length-drop, length-set, drop-of-length-le}
 use lib.Seq.{take-all, take-at, length-take-le, drop-drop}
 use Rattle.seqs.specs.Choose.{pick}
-use Rattle.pieces.specs.Whole.{lastOf, linesOf, cutTo, foundIn, spaceLeft, heldLeft, foundInAll}
-use Rattle.pieces.proofs.Whole.{cut-anyhow}
+use Rattle.pieces.specs.Whole.{lastOf, linesOf, endedIn, cutTo, foundIn, spaceLeft, heldLeft, foundInAll}
+use Rattle.pieces.proofs.Whole.{found-ended, cut-anyhow}
 use Rattle.paper.specs.declared.Registers.{Registers}
 use Rattle.paper.specs.Module.{Told, replyLine}
 use Rattle.lines.proofs.Outcomes.{too-long}
@@ -51,12 +51,14 @@ replies-cut s (l ∷ ls) room h = rw (told-cut s l room h, replies-cut (toldOf s
 
 -- ── one call of `serve` ──
 
--- Serving the rest of the piece p came to t: it answered `lines`, the first of those that were to find, and what is left to find
--- are the others; the replies to them stand behind what stood in the output, and the registers are those behind them.
+-- Serving the rest of the piece p came to t: it answered `lines`, the first of those that were to find, which are those in the
+-- part that it went through, and what is left to find are the others; the replies to them stand behind what stood in the output,
+-- and the registers are those behind them.
 record Goes (p : List ℕ) (t : Stand) (rest : List ℕ) (i : ℕ) (s : Registers) (d : List ℕ) (n : ℕ) (o : List ℕ) (w : ℕ)
     : Type 0 where
   lines : List (List ℕ)
   found : foundIn rest d n ≡ lines ++ foundIn (drop (t .next) p) (t .line) (t .held)
+  part : lines ≡ foundIn (take (t .next - i) rest) d n
   bytes : take (t .written) (t .out) ≡ take w o ++ repliesTo s lines
   regs : t .registers ≡ registersAfter s lines
   space : spaceLeft (drop (t .next) p) (t .line) (t .held) ≡ spaceLeft rest d n
@@ -84,6 +86,10 @@ pub rest-then : {p p′ p″ : List ℕ} {s s′ s″ : Registers} {d d′ d″ 
 rest-then f g =
     record { regs = g .regs ∙ f .regs; space = g .space ∙ f .space; held = g .held ∙ f .held; fits = g .fits }
 
+-- a place k behind i is one more from i than from i + 1
+one-more : (k i : ℕ) → i + 1 ≤ k → k - i ≡ suc (k - (i + 1))
+one-more k i h = omega arith
+
 -- a reply behind others
 module _ (t : Told) (o : List ℕ) (w : ℕ) (h : w ≤ length o) where
   reply-long : length (outAfter t o w) ≡ w + (length (replyLine t) + (length o - w - length (replyLine t)))
@@ -106,6 +112,7 @@ module _ (p : List ℕ) where
       rw er (record {
         lines = [];
         found = rw e;
+        part = let z : i - i ≡ 0 = omega arith in rw z;
         bytes = sym (append-nil (take w o));
         regs = refl;
         space = rw e;
@@ -124,6 +131,7 @@ module _ (p : List ℕ) where
       rw (er, eu) (record {
         lines = take n d ∷ g .lines;
         found = rw eu (ap (λ (x : List (List ℕ)). take n d ∷ x) (g .found));
+        part = rw (one-more _ i (g .from), eu) (ap (λ (x : List (List ℕ)). take n d ∷ x) (g .part));
         bytes =
             g .bytes ∙ ap (λ (x : List ℕ). x ++ repliesTo (t .after) (g .lines)) (reply-behind t o w h)
             ∙ append-assoc (take w o) (replyLine t) (repliesTo (t .after) (g .lines))
@@ -142,6 +150,7 @@ module _ (p : List ℕ) where
       rw (er, eu, ev) (record {
         lines = g .lines;
         found = rw (eu, ev) (g .found);
+        part = rw (one-more _ i (g .from), eu, ev) (g .part);
         bytes = g .bytes;
         regs = g .regs;
         space = g .space ∙ rw (eu, ev);
@@ -157,6 +166,7 @@ module _ (p : List ℕ) where
       rw (er, eu, ev) (record {
         lines = g .lines;
         found = rw (eu, ev) (g .found);
+        part = rw (one-more _ i (g .from), eu, ev) (g .part);
         bytes = g .bytes;
         regs = g .regs;
         space = g .space ∙ rw (eu, ev);
@@ -175,6 +185,7 @@ module _ (p : List ℕ) where
       record {
         lines = [];
         found = rw e;
+        part = let z : i - i ≡ 0 = omega arith in rw z;
         bytes = sym (append-nil (take w o));
         regs = refl;
         space = rw e;
@@ -220,10 +231,9 @@ module _ {p : List ℕ} {t : Stand} {rest : List ℕ} {i : ℕ} {s : Registers} 
       ≡ take w o ++ repliesTo s (foundIn rest d n)
   goes-bytes = rw (g .found, replies-append s (g .lines), g .bytes, g .regs, append-assoc)
 
--- Bytes b are the replies to some lines from registers s, and s′ are the registers behind these.
-pub record Answers (s : Registers) (b : List ℕ) (s′ : Registers) : Type 0 where
+-- Some lines lead from registers s to s′.
+pub record Leads (s s′ : Registers) : Type 0 where
   pub lines : List (List ℕ)
-  pub bytes : b ≡ repliesTo s lines
   pub regs : s′ ≡ registersAfter s lines
 
 -- a call, with any count of held bytes
@@ -241,15 +251,29 @@ module _ (s : Registers) (p : List ℕ) (at : ℕ) (d : List ℕ) (n : ℕ) (o :
         let f : r .next ≡ servedOf s p at d n o .next = ap (λ (x : Served). x .next) (e .returned) in
         omega (arith, onward h k)
 
+    pub served-upto : at ≤ length p → r .next ≤ length p
+    served-upto h =
+        let f : r .next ≡ servedOf s p at d n o .next = ap (λ (x : Served). x .next) (e .returned) in
+        omega (arith, call-goes .upto, length-drop at p)
+
     pub served-within : r .written ≤ length out
     served-within =
         let f : r .written ≡ servedOf s p at d n o .written = ap (λ (x : Served). x .written) (e .returned) in
         omega (arith, call-goes .room, ap length (e .out-left))
 
-    -- what is to be written are the replies to lines, and the registers are those behind these
-    pub served-lines : Answers s (take (r .written) out) (r .registers)
-    served-lines =
-        rw (e .returned, e .out-left) (record { lines = call-goes .lines; bytes = call-goes .bytes; regs = call-goes .regs })
+    -- and it is the replies to the lines that end in the part of the piece that the call went through
+    pub served-part : n ≤ length d → 4244 < length d
+        → take (r .written) out ≡ repliesTo s (endedIn (take n d) (take (r .next - at) (drop at p)))
+    served-part h k =
+        let t : Stand = servedOf s p at d n o in
+        let m : min n (length d) ≡ n = omega arith in
+        let g = subst (λ (x : ℕ). Goes p t (drop at p) at s d x o 0) m call-goes in
+        let part = take (t .next - at) (drop at p) in
+        rw (e .returned, e .out-left)
+        (g .bytes ∙ ap (repliesTo s) (g .part ∙ found-ended part d n h) ∙ replies-cut s (endedIn (take n d) part) (length d) k)
+
+    pub served-leads : Leads s (r .registers)
+    served-leads = rw (e .returned) (record { lines = call-goes .lines; regs = call-goes .regs })
 
     -- and what is left to find behind it is what was to find, without the lines that it answered
     pub served-rest : n ≤ length d → Rest (drop at p) s d n (drop (r .next) p) (r .registers) line (r .held)

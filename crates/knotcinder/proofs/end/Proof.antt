@@ -1,26 +1,31 @@
--- What is to be written stands in the output, and is the reply to what is held.
+-- What is to be written stands in the output, and is the reply to what is held, if anything is, as if 0A followed.
+use mathlib.Core.Path.{_≡_}
+use Prim.Native.Nat.{_-_, _<_}
 use native.Mathlib.Omega.{arith}
-use lib.ListN.{take}
-use Rattle.pieces.specs.Whole.{lastOf}
+use lib.ListN.{length, take}
+use lib.Seq.{length-take-le}
 use Rattle.session.proofs.Whole.{finish-within, finish-bytes}
-use Rattle.knotcinder.proofs.Laws.{standing-reached, replies}
+use Rattle.knotcinder.proofs.Laws.{standing-reached, due-last}
 use borrow.Author.Needs.{needs}
 use Rattle.knotcinder.proofs.end.Statement.{statement}
 use Rattle.knotcinder.proofs.end.Tie as tie
 
-part-say-end : tie.Need-part-say-end
-part-say-end c =
-    let t = c .before .before .before .finish in
+part-say-end-2 : tie.Need-part-say-end-2
+part-say-end-2 c =
+    let t = c .before .before .before .before .before .before .finish in
     omega (arith, finish-within _ _ _ _ _ (t .ensures))
 
 say-requires : tie.Need-say-requires
 say-requires c κs =
-    let t = c .before .before .before .before .finish in
-    let b = c .before .before .before .before .before .before .before .before in
+    let t = c .before .before .before .before .before .before .before .finish in
+    let b = c .before .before .before .before .before .before .before .before .before .before .before in
     let a = b .args in
     let held = take (a .held) (a .line .now) in
-    replies (t .result .length) _ (lastOf held) (standing-reached (b .pre .1))
-    (finish-bytes (a .r) held (a .out .now) (t .result) _ (t .ensures) (omega (arith, b .pre)))
+    let z : a .held - 0 ≡ a .held = omega arith in
+    let h = c .before .before .before .before .if1 .taken in
+    let some : 0 < length held = omega (arith, length-take-le (a .held) (a .line .now) (b .pre .0 .0), h) in
+    rw z (due-last (standing-reached (b .pre .1)) held _ (t .result .length) some
+    (finish-bytes (a .r) held (a .out .now) (t .result) _ (t .ensures) (b .pre .0 .2)))
 
 pub end-spec : {M : Type 1} → statement M
 end-spec =
@@ -29,7 +34,13 @@ end-spec =
     (λ c κs. search needs)
     (λ c. search needs)
     (λ c. search needs)
-    part-say-end
+    (λ c. search needs)
+    (λ c. search needs)
+    (λ c. search needs)
+    (λ c. search needs)
+    part-say-end-2
     say-requires
+    (λ c. search needs)
+    (λ c. search needs)
     (λ c. search needs)
     (λ c. search needs))

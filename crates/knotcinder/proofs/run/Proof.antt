@@ -1,5 +1,5 @@
 -- A session stands where a turn starts: at first with nothing held, then behind the piece that the turn before went through.
--- What is held fits the line's space, and both spaces keep their lengths, whichever way a turn ends; the turns left fall.
+-- What is held fits the line's space, and the spaces keep their lengths, whichever way a turn ends; the turns left fall.
 use mathlib.Core.Path.{_≡_, refl, _∙_}
 use Prim.Native.Nat.{_<_, _≤_}
 use native.Mathlib.Omega.{arith}
@@ -11,50 +11,56 @@ use Rattle.knotcinder.proofs.run.Statement.{statement}
 use Rattle.knotcinder.proofs.run.Tie as tie
 
 abbrev Inv-loop : tie.InvT-loop
-Inv-loop input₀ line₀ out₀ registers₀ held₀ turns₀ input line out registers held turns =
+Inv-loop input₀ line₀ kept₀ out₀ registers₀ held₀ turns₀ input line kept out registers held turns =
     (held ≤ length line)
     × (4244 < length line)
+    × (length line ≤ length kept)
     × (195 ≤ length out)
     × (length input ≡ length input₀)
     × (length line ≡ length line₀)
+    × (length kept ≡ length kept₀)
     × (length out ≡ length out₀)
     × Standing registers line held
 
 abbrev μ-loop : tie.MeasureT-loop
-μ-loop input₀ line₀ out₀ registers₀ held₀ turns₀ input line out registers held turns = turns
+μ-loop input₀ line₀ kept₀ out₀ registers₀ held₀ turns₀ input line kept out registers held turns = turns
 
 -- where the turn started in which a piece is served
-abbrev turn : tie.After-serve-piece-arg3 Inv-loop μ-loop → tie.At-loop Inv-loop μ-loop
-turn c = c .before .before .before .before .before .before .before .before .before .before .before .before .before
+abbrev turn : tie.After-serve-piece-arg4 Inv-loop μ-loop → tie.At-loop Inv-loop μ-loop
+turn c = c .before .before .before .before .before .before .before .before .before .before .before .before .before .before
 
 loop-holds : tie.Need-loop-holds Inv-loop μ-loop
-loop-holds c = (omega arith, omega arith, omega arith, refl, refl, refl, standing-first _ _ (c .fresh .ensures))
+loop-holds c =
+    (omega arith, omega arith, omega arith, omega arith, refl, refl, refl, refl, standing-first _ _ (c .fresh .ensures))
 
 end-requires : tie.Need-end-requires Inv-loop μ-loop
 end-requires c κs =
     let i = c .before .before .before .before .before .before .before .before .before .before .before .loop .inv in
-    ((i .1, i .2), i .6)
+    ((i .0, i .1, i .3), i .8)
 
 serve-piece-requires : tie.Need-serve-piece-requires Inv-loop μ-loop
 serve-piece-requires c κs =
     let i = turn c .loop .inv in
-    ((i .0, i .1, i .2), i .6)
+    ((i .0, i .1, i .2, i .3), i .8)
 
 loop-again : tie.Need-loop-again Inv-loop μ-loop
 loop-again c =
-    let t = c .before .before .before .before .before .before .before in
-    let r = t .before .before .before .before .before .before .before .before .before .before .before .read in
+    let t = c .before .before .before .before .before .before .before .before .before in
+    let r = t .before .before .before .before .before .before .before .before .before .before .before .before .read in
     let i = turn (t .before) .loop .inv in
     let o = t .serve-piece in
     let line = o .kept .1 .1 .0 in
-    let out = o .kept .1 .1 .1 .1 .0 in (
+    let kept = o .kept .1 .1 .1 .1 .0 in
+    let out = o .kept .1 .1 .1 .1 .1 .0 in (
       omega (arith, o .ensures .fits, line),
       omega (arith, line, i .1),
-      omega (arith, out, i .2),
-      r .kept .1 .0 ∙ i .3,
-      line ∙ i .4,
-      out ∙ i .5,
-      standing-next (i .6) (o .ensures) (c .before .if3 .left),
+      omega (arith, line, kept, i .2),
+      omega (arith, out, i .3),
+      r .kept .1 .0 ∙ i .4,
+      line ∙ i .5,
+      kept ∙ i .6,
+      out ∙ i .7,
+      standing-next (i .8) (o .ensures) (c .before .if3 .left),
     )
 
 pub run-spec : {M : Type 1} → statement M
@@ -70,8 +76,10 @@ run-spec =
     (λ c. search needs)
     (λ c. search needs)
     (λ c. search needs)
+    (λ c. search needs)
     (λ c κs. search needs)
     end-requires
+    (λ c. search needs)
     (λ c. search needs)
     (λ c. search needs)
     (λ c. search needs)
@@ -86,7 +94,9 @@ run-spec =
     (λ c. search needs)
     (λ c. search needs)
     (λ c. search needs)
+    (λ c. search needs)
     loop-again
+    (λ c. search needs)
     (λ c. search needs)
     (λ c. search needs)
     (λ c. search needs)
