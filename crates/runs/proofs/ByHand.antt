@@ -96,8 +96,8 @@ module _ (D : List ℕ → Dig) where
   legal : EveryRow D wishes
   legal =
       -- insert
-      (omega arith, omega arith, unlisted 7 (omega arith) (omega arith))
-      and (omega arith, omega arith, unlisted _ (omega arith) (omega arith))
+      omega arith
+      and omega arith
       and (λ h. omega (arith, h .0))
       and (λ h. h .2 .0 refl)
       and (λ h. h .2 .1 .0 refl)
@@ -113,9 +113,9 @@ module _ (D : List ℕ → Dig) where
       and (λ h. no-other (omega arith) (omega arith) (h .2 .1))
       and (λ h. no-other (omega arith) (omega arith) (h .1 .1))
       -- set
-      and ((_, at-5), (omega arith, omega arith, omega arith))
-      and ((_, at-9), (omega arith, omega arith, omega arith))
-      and ((_, at-9), (omega arith, omega arith, omega arith))
+      and ((_, at-5), omega arith)
+      and ((_, at-9), omega arith)
+      and ((_, at-9), omega arith)
       and (λ h. no-other (omega arith) (omega arith) (h .0 .1))
       and (λ h. omega (arith, h .1 .0))
       and (λ h. omega (arith, h .1 .1))
@@ -125,10 +125,10 @@ module _ (D : List ℕ → Dig) where
       and (λ h. true≢false (sym (ap blank (only-at-5 (h .1))) ∙ h .2))
       and (λ h. no-other (omega arith) (omega arith) (h .1))
       -- ask
-      and (omega arith, omega arith)
-      and (omega arith, omega arith)
-      and (omega arith, omega arith)
-      and (omega arith, omega arith)
+      and omega arith
+      and omega arith
+      and omega arith
+      and omega arith
       and (λ h. omega (arith, h .0))
       and (λ h. omega (arith, h .1))
       and tt

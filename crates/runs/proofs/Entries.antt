@@ -17,6 +17,7 @@ use Rattle.paper.specs.Answers.{Change, Effect, issues, answer}
 use Rattle.paper.specs.Module.{Told}
 use Rattle.runs.specs.Run.{Turn, Issue, ofRuns, meaning, World, issuedBy, toldAt, next, after}
 use Rattle.runs.specs.Also.{lastOf, Entered, BookGrows}
+use Rattle.runs.proofs.Book.{entered-none}
 use Rattle.runs.proofs.Lines.{asked, kindIn, Sorted, refusal, acceptance, sorted, accepted-known}
 
 -- ── which requests issue ──
@@ -109,7 +110,7 @@ module _ (D : List ℕ → Dig) (D32 : (l : List ℕ) → length (D l) ≡ 32) w
 
       by-sort : Sorted D (w .registers) (t .line) (t .space) → Entered D w t (next D ofRuns w t .book)
       by-sort (refusal n fs z e r) =
-          let same-book : next D ofRuns w t .book ≡ w .book = rw e (append-nil (w .book)) in
+          let same-book : next D ofRuns w t .book ≡ w .book = rw e (entered-none ofRuns (w .book)) in
           record {
             issuing = λ h. absurd (z (sym (ap (λ (a : Told). a .refusal) e) ∙ h));
             other = λ h. same-book;
