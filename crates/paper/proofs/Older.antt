@@ -165,8 +165,14 @@ set-line line k =
           k h in
           let long = eqb-true (length f) 169 (both-true _ _ g .0) in
           length-take-le 32 (drop 24 (drop 32 (drop 8 (drop 8 (drop 1 f)))))
-          (omega (arith, length-drop 24 (drop 32 (drop 8 (drop 8 (drop 1 f)))), length-drop 32 (drop 8 (drop 8 (drop 1 f))),
-          length-drop 8 (drop 8 (drop 1 f)), length-drop 8 (drop 1 f), length-drop 1 f));
+          (omega (
+            arith,
+            length-drop 24 (drop 32 (drop 8 (drop 8 (drop 1 f)))),
+            length-drop 32 (drop 8 (drop 8 (drop 1 f))),
+            length-drop 8 (drop 8 (drop 1 f)),
+            length-drop 8 (drop 1 f),
+            length-drop 1 f,
+          ));
     }
 
 module _ (D : List ℕ → Dig) (D32 : (l : List ℕ) → length (D l) ≡ 32) where
