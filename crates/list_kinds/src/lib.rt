@@ -101,11 +101,11 @@ pub fn adopt(r: Registers, y: [u8; 32], next: [u8; 32], m: [u8; 32]) -> Outcome
 }
 
 // What a set or a clear answers: the new root and the new counter.
-fn root_and_counter(yn: [u8; 32], c: u64) -> [u8; 40]
-    ensures { λ r. ⌜ r ≡ yn ++ be64 c ⌝ }
+fn root_and_counter(yn: [u8; 32], c: Revision) -> [u8; 40]
+    ensures { λ r. ⌜ r ≡ yn ++ be64 (c .0) ⌝ }
 {
     let mut s = [0u8; 40];
-    let n = fields::spelled(c);
+    let n = fields::spelled(c.0);
     fields::put(&mut s, 0, &yn);
     fields::put(&mut s, 32, &n);
     s
@@ -191,7 +191,7 @@ pub fn set_record(
     if !fields::same_digest(y, root) {
         return replies::refuse(r, 10, u.blocks);
     }
-    let says = root_and_counter(yn, cn);
+    let says = root_and_counter(yn, Revision(cn));
     replies::accept(
         Registers {
             root: yn,
@@ -254,7 +254,7 @@ pub fn clear_record(
     if !fields::same_digest(y, root) {
         return replies::refuse(r, 10, u.blocks);
     }
-    let says = root_and_counter(cleared, cn);
+    let says = root_and_counter(cleared, Revision(cn));
     replies::accept(
         Registers {
             root: cleared,
