@@ -36,9 +36,7 @@ record-cost r e = omega (arith, blocks-of e, record-by r (blank r))
 pub made : (before : List Str) (t : Str) (m : Dig) {u : Digest} {r b : Bool}
     → u ≡ worked (digest sha256 t) (before ++ (t ∷ [])) → r ≡ same (u .bytes) m → not r ≡ b
     → Made (comparing 8 before t m (same (digest sha256 t) m)) b 0 (u .blocks)
-made before t m e h k =
-    let p = compared {number = 8} {n = 0} before t m (bytes-of e) h k in
-    record { fails = p .fails; count = omega (arith, blocks-of e, p .count) }
+made before t m e h k = compared before t m (bytes-of e) h k (omega (arith, blocks-of e))
 
 module _ (k : Dig) (A A′ : ℕ) (old new : Record) (y y′ : Dig) where
   abbrev changed : Str
@@ -48,16 +46,20 @@ module _ (k : Dig) (A A′ : ℕ) (old new : Record) (y y′ : Dig) where
   pub change-law : {h x h′ x′ u : Digest} → h ≡ worked (recordHash sha256 old) (recordForms old)
       → x ≡ hashed (leaf A A′ (h .bytes)) → h′ ≡ worked (recordHash sha256 new) (recordForms new)
       → x′ ≡ hashed (leaf A A′ (h′ .bytes)) → u ≡ hashed (memo (u1 (x .bytes) y (x′ .bytes) y′) k)
-      → _≡_ {A = Digest} (record { bytes = u .bytes; blocks = h .blocks + h′ .blocks + 5 })
+      → _≡_ {A = Digest} (record { bytes = u .bytes; blocks = h .blocks + x .blocks + h′ .blocks + x′ .blocks + u .blocks })
       (worked (digest sha256 changed) (changeForms sha256 A A′ old new ++ (changed ∷ [])))
   change-law {h} {x} {h′} {x′} {u} e1 e2 e3 e4 e5 =
       let f : List Str = leafOf sha256 A A′ old ∷ [] in
       let f′ : List Str = leafOf sha256 A A′ new ∷ [] in
-      let n : h .blocks + h′ .blocks + 5 ≡ cost (changeForms sha256 A A′ old new ++ (changed ∷ [])) =
+      let n : h .blocks + x .blocks + h′ .blocks + x′ .blocks + u .blocks
+      ≡ cost (changeForms sha256 A A′ old new ++ (changed ∷ [])) =
       omega (
         arith,
         blocks-of e1,
+        blocks-of e2,
         blocks-of e3,
+        blocks-of e4,
+        blocks-of e5,
         cost-append (changeForms sha256 A A′ old new) (changed ∷ []),
         cost-append (recordForms old ++ f) (recordForms new ++ f′),
         cost-append (recordForms old) f,
@@ -72,12 +74,19 @@ module _ (k : Dig) (A A′ : ℕ) (r : Record) (y : Dig) where
   -- V1 of a leaf, from the three digests that it is made of
   pub leaf-law : {h x v : Digest} → h ≡ worked (recordHash sha256 r) (recordForms r)
       → x ≡ hashed (leaf A A′ (h .bytes)) → v ≡ hashed (memo (v1 (x .bytes) y) k)
-      → _≡_ {A = Digest} (record { bytes = v .bytes; blocks = h .blocks + 3 })
+      → _≡_ {A = Digest} (record { bytes = v .bytes; blocks = h .blocks + x .blocks + v .blocks })
       (worked (digest sha256 asked) (leafForms sha256 A A′ r ++ (asked ∷ [])))
-  leaf-law {h} e1 e2 e3 =
+  leaf-law {h} {x} {v} e1 e2 e3 =
       let f : List Str = leafOf sha256 A A′ r ∷ [] in
-      let n : h .blocks + 3 ≡ cost (leafForms sha256 A A′ r ++ (asked ∷ [])) =
-      omega (arith, blocks-of e1, cost-append (leafForms sha256 A A′ r) (asked ∷ []), cost-append (recordForms r) f) in
+      let n : h .blocks + x .blocks + v .blocks ≡ cost (leafForms sha256 A A′ r ++ (asked ∷ [])) =
+      omega (
+        arith,
+        blocks-of e1,
+        blocks-of e2,
+        blocks-of e3,
+        cost-append (leafForms sha256 A A′ r) (asked ∷ []),
+        cost-append (recordForms r) f,
+      ) in
       rw (n, e3, e2, e1) refl
 
 -- ── findings ──

@@ -77,14 +77,14 @@ pub fn adopt(r: Registers, y: [u8; 32], next: [u8; 32], m: [u8; 32]) -> Outcome
         return replies::refuse(r, 13, 0);
     }
     let k = r.secret;
-    let u = digests::ei(y, next, k);
-    let fitting = u.bytes;
+    let due = digests::ei(y, next, k);
+    let fitting = due.bytes;
     if !fields::same_digest(fitting, m) {
-        return replies::refuse(r, 8, 2);
+        return replies::refuse(r, 8, due.blocks);
     }
     let held = r.root;
     if !fields::same_digest(y, held) {
-        return replies::refuse(r, 10, 2);
+        return replies::refuse(r, 10, due.blocks);
     }
     let counter = r.counter;
     replies::accept(
@@ -96,7 +96,7 @@ pub fn adopt(r: Registers, y: [u8; 32], next: [u8; 32], m: [u8; 32]) -> Outcome
         },
         0x8b,
         &next,
-        2,
+        due.blocks,
     )
 }
 
@@ -137,7 +137,7 @@ fn change_memo(
     let ub = u.bytes;
     Digest {
         bytes: ub,
-        blocks: h.blocks + hn.blocks + 5,
+        blocks: h.blocks + x.blocks + hn.blocks + xn.blocks + u.blocks,
     }
 }
 
@@ -354,7 +354,7 @@ fn leaf_memo(secret: [u8; 32], a: Item, b: Item, rec: Record, y: [u8; 32]) -> Di
     let vb = v.bytes;
     Digest {
         bytes: vb,
-        blocks: h.blocks + 3,
+        blocks: h.blocks + x.blocks + v.blocks,
     }
 }
 

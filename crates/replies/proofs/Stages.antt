@@ -79,14 +79,14 @@ abbrev pub comparing : (number : ℕ) (before : List Str) (t : Str) (m : Dig) �
 comparing number before t m b =
     record { number = number; fails = pick b false true; forms = before ++ (t ∷ pick b [] []); compares = m ∷ [] }
 
-module _ {number n : ℕ} (before : List Str) (t : Str) (m : Dig) where
-  made : (x : Bool) {b : Bool} → opposite x ≡ b → Made (comparing number before t m x) b n (cost (before ++ (t ∷ [])) + n)
-  made true e = record { fails = e; count = refl }
-  made false e = record { fails = e; count = refl }
+module _ {number n k : ℕ} (before : List Str) (t : Str) (m : Dig) where
+  made : (x : Bool) {b : Bool} → opposite x ≡ b → k ≡ cost (before ++ (t ∷ [])) + n → Made (comparing number before t m x) b n k
+  made true e h = record { fails = e; count = h }
+  made false e h = record { fails = e; count = h }
 
   pub compared : {d : Dig} {r b : Bool} → d ≡ digest sha256 t → r ≡ same d m → not r ≡ b
-      → Made (comparing number before t m (same (digest sha256 t) m)) b n (cost (before ++ (t ∷ [])) + n)
-  compared e h k = made (same (digest sha256 t) m) (turned (h ∙ ap (λ (x : Dig). same x m) e) k)
+      → k ≡ cost (before ++ (t ∷ [])) + n → Made (comparing number before t m (same (digest sha256 t) m)) b n k
+  compared e h f count = made (same (digest sha256 t) m) (turned (h ∙ ap (λ (x : Dig). same x m) e) f) count
 
 -- ── the checks one by one ──
 

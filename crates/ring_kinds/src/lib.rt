@@ -30,11 +30,11 @@ pub fn swap(
     let u = digests::u2(x1, x2, y, x2, x1, yn, k);
     let ub = u.bytes;
     if !fields::same_digest(ub, m) {
-        return replies::refuse(r, 8, 4);
+        return replies::refuse(r, 8, u.blocks);
     }
     let e = digests::ei(y, yn, k);
     let eb = e.bytes;
-    replies::accept(r, 0x86, &eb, 6)
+    replies::accept(r, 0x86, &eb, u.blocks + e.blocks)
 }
 
 // 07: answers EI(0,leaf(A,A,0)).
@@ -53,7 +53,7 @@ pub fn first(r: Registers, a: Item) -> Outcome
     let lb = l.bytes;
     let e = digests::ei(z, lb, k);
     let eb = e.bytes;
-    replies::accept(r, 0x87, &eb, 3)
+    replies::accept(r, 0x87, &eb, l.blocks + e.blocks)
 }
 
 // Whether a memorandum fits, and the blocks worked to find out.
@@ -84,12 +84,13 @@ fn place_memo(
     let x1 = l1.bytes;
     let x1n = l2.bytes;
     let x2 = l3.bytes;
+    let leaves = l1.blocks + l2.blocks + l3.blocks;
     let u = digests::u2(x1, x2, y, x1n, z, yn, k);
     let ub = u.bytes;
     if fields::same_digest(ub, m) {
         return Tried {
             fits: true,
-            blocks: 7,
+            blocks: leaves + u.blocks,
         };
     }
     let v = digests::u2(x2, x1, y, z, x1n, yn, k);
@@ -97,12 +98,12 @@ fn place_memo(
     if fields::same_digest(vb, m) {
         return Tried {
             fits: true,
-            blocks: 11,
+            blocks: leaves + u.blocks + v.blocks,
         };
     }
     Tried {
         fits: false,
-        blocks: 11,
+        blocks: leaves + u.blocks + v.blocks,
     }
 }
 
@@ -142,7 +143,7 @@ pub fn place(
     }
     let e = digests::ei(y, yn, k);
     let eb = e.bytes;
-    replies::accept(r, 0x88, &eb, t.blocks + 2)
+    replies::accept(r, 0x88, &eb, t.blocks + e.blocks)
 }
 
 // 09: m is EI(x,y); answers EI(y,x).
@@ -156,11 +157,11 @@ pub fn turn(r: Registers, x: [u8; 32], y: [u8; 32], m: [u8; 32]) -> Outcome
     let u = digests::ei(x, y, k);
     let ub = u.bytes;
     if !fields::same_digest(ub, m) {
-        return replies::refuse(r, 8, 2);
+        return replies::refuse(r, 8, u.blocks);
     }
     let e = digests::ei(y, x, k);
     let eb = e.bytes;
-    replies::accept(r, 0x89, &eb, 4)
+    replies::accept(r, 0x89, &eb, u.blocks + e.blocks)
 }
 
 // 0a: m1 is EI(x,y) and m2 is EI(y,z); answers EI(x,z).
@@ -181,14 +182,14 @@ pub fn chain(
     let u = digests::ei(x, y, k);
     let ub = u.bytes;
     if !fields::same_digest(ub, m1) {
-        return replies::refuse(r, 8, 2);
+        return replies::refuse(r, 8, u.blocks);
     }
     let v = digests::ei(y, z, k);
     let vb = v.bytes;
     if !fields::same_digest(vb, m2) {
-        return replies::refuse(r, 9, 4);
+        return replies::refuse(r, 9, u.blocks + v.blocks);
     }
     let e = digests::ei(x, z, k);
     let eb = e.bytes;
-    replies::accept(r, 0x8a, &eb, 6)
+    replies::accept(r, 0x8a, &eb, u.blocks + v.blocks + e.blocks)
 }

@@ -21,13 +21,19 @@ pub path-answered : {s : Registers} {x x′ : Dig} {sides : ℕ} {l : List Dig} 
     → g ≡ worked (foldUp sha256 x′ sides l) (foldForms sha256 x′ sides l)
     → u ≡ hashed (memo (u1 x (f .bytes) x′ (g .bytes)) (s .secret))
     → lists ≡ (f .bytes ++ g .bytes) ++ u .bytes → length lists ≤ 96
-    → acceptance s 0x81 lists (f .blocks + g .blocks + 3) ≡ outcome s 1 (Q.path x x′ sides l)
+    → acceptance s 0x81 lists (f .blocks + g .blocks + u .blocks) ≡ outcome s 1 (Q.path x x′ sides l)
 path-answered {s} {x} {x′} {sides} {l} p ef eg eu el room =
     let y = bytes-of ef in
     let y′ = bytes-of eg in
     let m = bytes-of eu ∙ ap₂ (λ (p q : Dig). digest sha256 (memo (u1 x p x′ q) (s .secret))) y y′ in
     answers p (el ∙ (λ i. (y i ++ y′ i) ++ m i))
-    (omega (arith, blocks-of ef, blocks-of eg, cost-append (foldForms sha256 x′ sides l) (foldForms sha256 x sides l)))
+    (omega (
+      arith,
+      blocks-of ef,
+      blocks-of eg,
+      blocks-of eu,
+      cost-append (foldForms sha256 x′ sides l) (foldForms sha256 x sides l),
+    ))
     room
 
 -- more siblings than there are are all of them

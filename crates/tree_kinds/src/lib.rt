@@ -4,14 +4,14 @@ use digests::Digest;
 use paper::Registers;
 use replies::Outcome;
 ghost use mathlib.Core.Path.{_≡_};
-ghost use mathlib.Core.List.{_++_};
-ghost use Prim.Native.Nat.{_+_, _≤_};
+ghost use mathlib.Core.List.{_∷_, _++_};
+ghost use Prim.Native.Nat.{_≤_};
 ghost use lib.ListN.{take};
 ghost use Rattle.sha256.specs.Hash.{sha256};
 ghost use Rattle.paper.specs.Strings as S;
 ghost use Rattle.paper.specs.Requests as Q;
 ghost use Rattle.digests.specs.Worked.{worked};
-ghost use Rattle.replies.specs.Outcomes.{outcome, acceptance};
+ghost use Rattle.replies.specs.Outcomes.{outcome};
 
 // One level up, from u with its sibling s; bit is 1 if the sibling stands on the left.
 fn level(u: [u8; 32], s: [u8; 32], bit: u64) -> Digest
@@ -80,7 +80,7 @@ fn path_of(
     let u = digests::u1(x, y, xn, yn, k);
     let ub = u.bytes;
     let lists = three(y, yn, ub);
-    replies::accept(r, 0x81, &lists, f.blocks + g.blocks + 3)
+    replies::accept(r, 0x81, &lists, f.blocks + g.blocks + u.blocks)
 }
 
 // 01: folds x and x' up the same path of the first n siblings; answers y, y' and U1(x,y,x',y').
@@ -111,11 +111,11 @@ pub fn witness(r: Registers, x: [u8; 32], y: [u8; 32], m: [u8; 32]) -> Outcome
     let u = digests::u1(x, y, x, y, k);
     let ub = u.bytes;
     if !fields::same_digest(ub, m) {
-        return replies::refuse(r, 8, 3);
+        return replies::refuse(r, 8, u.blocks);
     }
     let v = digests::v1(x, y, k);
     let vb = v.bytes;
-    replies::accept(r, 0x82, &vb, 5)
+    replies::accept(r, 0x82, &vb, u.blocks + v.blocks)
 }
 
 // 03: m1 is U1(x,y,x',y') and m2 is U1(y,z,y',z'); answers U1(x,z,x',z'). Both halves have to meet.
@@ -139,16 +139,16 @@ pub fn join(
     let u = digests::u1(x, y, xn, yn, k);
     let ub = u.bytes;
     if !fields::same_digest(ub, m1) {
-        return replies::refuse(r, 8, 3);
+        return replies::refuse(r, 8, u.blocks);
     }
     let upper = digests::u1(y, z, yn, zn, k);
     let ub2 = upper.bytes;
     if !fields::same_digest(ub2, m2) {
-        return replies::refuse(r, 9, 6);
+        return replies::refuse(r, 9, u.blocks + upper.blocks);
     }
     let w = digests::u1(x, z, xn, zn, k);
     let wb = w.bytes;
-    replies::accept(r, 0x83, &wb, 9)
+    replies::accept(r, 0x83, &wb, u.blocks + upper.blocks + w.blocks)
 }
 
 // 05: m1 is U2(x1,x2,y,x1',x2',y') and m2 is U1(y,z,y',z'); answers U2(x1,x2,z,x1',x2',z').
@@ -171,24 +171,24 @@ pub fn raise(
         return replies::refuse(r, 13, 0);
     }
     let k = r.secret;
-    let u = digests::u2(x1, x2, y, x1n, x2n, yn, k);
-    let ub = u.bytes;
+    let both = digests::u2(x1, x2, y, x1n, x2n, yn, k);
+    let ub = both.bytes;
     if !fields::same_digest(ub, m1) {
-        return replies::refuse(r, 8, 4);
+        return replies::refuse(r, 8, both.blocks);
     }
     let v = digests::u1(y, z, yn, zn, k);
     let vb = v.bytes;
     if !fields::same_digest(vb, m2) {
-        return replies::refuse(r, 9, 7);
+        return replies::refuse(r, 9, both.blocks + v.blocks);
     }
     let w = digests::u2(x1, x2, z, x1n, x2n, zn, k);
     let wb = w.bytes;
-    replies::accept(r, 0x85, &wb, 11)
+    replies::accept(r, 0x85, &wb, both.blocks + v.blocks + w.blocks)
 }
 
-// The answer of a pair whose memoranda both match, for which six blocks were worked.
-fn pair_answer(
-    r: Registers,
+// U2 of two places under one node, with all that is formed for it.
+fn pair_memo(
+    secret: [u8; 32],
     x1: [u8; 32],
     x2: [u8; 32],
     y: [u8; 32],
@@ -197,19 +197,21 @@ fn pair_answer(
     x2n: [u8; 32],
     yn: [u8; 32],
     zn: [u8; 32],
-) -> Outcome
-    ensures { λ o. ⌜ o ≡ acceptance r 0x84
-        (S.digest sha256 (S.memo (S.u2 x1 x2 (S.H sha256 y z) x1n x2n (S.H sha256 yn zn)) (r .secret)))
-        (10 + S.cost (S.parentForms y z) + S.cost (S.parentForms yn zn)) ⌝ }
+) -> Digest
+    ensures { λ d. ⌜ d ≡ worked (S.digest sha256 (S.memo (S.u2 x1 x2 (S.H sha256 y z) x1n x2n (S.H sha256 yn zn)) secret))
+        (S.memo (S.u2 x1 x2 (S.H sha256 y z) x1n x2n (S.H sha256 yn zn)) secret
+        ∷ (S.parentForms yn zn ++ S.parentForms y z)) ⌝ }
 {
-    let k = r.secret;
     let h = digests::parent(y, z);
     let hn = digests::parent(yn, zn);
     let hb = h.bytes;
     let hnb = hn.bytes;
-    let w = digests::u2(x1, x2, hb, x1n, x2n, hnb, k);
+    let w = digests::u2(x1, x2, hb, x1n, x2n, hnb, secret);
     let wb = w.bytes;
-    replies::accept(r, 0x84, &wb, 10 + h.blocks + hn.blocks)
+    Digest {
+        bytes: wb,
+        blocks: h.blocks + hn.blocks + w.blocks,
+    }
 }
 
 // 04: m1 is U1(x1,y,x1',y') and m2 is U1(x2,z,x2',z'); answers U2 of both under one node.
@@ -235,12 +237,14 @@ pub fn pair(
     let u = digests::u1(x1, y, x1n, yn, k);
     let ub = u.bytes;
     if !fields::same_digest(ub, m1) {
-        return replies::refuse(r, 8, 3);
+        return replies::refuse(r, 8, u.blocks);
     }
     let v = digests::u1(x2, z, x2n, zn, k);
     let vb = v.bytes;
     if !fields::same_digest(vb, m2) {
-        return replies::refuse(r, 9, 6);
+        return replies::refuse(r, 9, u.blocks + v.blocks);
     }
-    pair_answer(r, x1, x2, y, z, x1n, x2n, yn, zn)
+    let w = pair_memo(k, x1, x2, y, z, x1n, x2n, yn, zn);
+    let wb = w.bytes;
+    replies::accept(r, 0x84, &wb, u.blocks + v.blocks + w.blocks)
 }

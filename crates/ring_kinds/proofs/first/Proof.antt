@@ -1,11 +1,12 @@
 -- Each return is a row of the table, with the leaf and the memorandum as their callees worked them.
-use mathlib.Core.Path.{refl, ap, _∙_}
-use Prim.Native.Nat.{ℕ}
+use mathlib.Core.Path.{refl, ap, ap₂, _∙_}
+use Prim.Native.Nat.{ℕ, _+_}
+use native.Mathlib.Omega.{arith}
 use borrow.Author.Tests.{eq-eqb, ne-eqb}
 use Rattle.sha256.specs.Hash.{sha256}
 use Rattle.paper.specs.Strings.{Dig, nought, memo, ei, digest}
 use Rattle.paper.specs.Requests as Q
-use Rattle.digests.proofs.Fit.{bytes-of}
+use Rattle.digests.proofs.Fit.{bytes-of, blocks-of}
 use Rattle.replies.proofs.Stages.{Met, begun, passes, refuses, issues}
 use borrow.Author.Needs.{needs}
 use Rattle.ring_kinds.proofs.first.Statement.{statement}
@@ -27,13 +28,20 @@ returns c = c .refuse .ensures ∙ refuses (begun _ _ _) (c .before .if1 .taken)
 returns-2 : tie.Need-returns-2
 returns-2 c = c .refuse2 .ensures ∙ refuses (opened (c .before .before .before)) (eq-eqb _ _ (c .before .if2 .taken))
 
+add-accept : tie.Need-add-accept
+add-accept c =
+    let m = c .before .before .before .before in
+    omega (arith, blocks-of (m .before .before .leaf .ensures), blocks-of (m .ei .ensures))
+
 returns-3 : tie.Need-returns-3
 returns-3 c =
-    let l = c .before .before .before .before .before in
+    let m = c .before .before .before .before .before in
+    let l = m .before .before in
     let k = l .before .before .before .before .before .before .args .r .secret in
     let e = ap (λ (x : Dig). digest sha256 (memo (ei nought x) k)) (bytes-of (l .leaf .ensures)) in
     c .accept .ensures
-    ∙ issues _ (named (l .before .before)) (bytes-of (c .before .before .before .ei .ensures) ∙ e) refl refl
+    ∙ issues _ (named (l .before .before)) (bytes-of (m .ei .ensures) ∙ e) refl
+    (ap₂ _+_ (blocks-of (l .leaf .ensures)) (blocks-of (m .ei .ensures)))
 
 pub first-spec : {M : Type 1} → statement M
 first-spec =
@@ -41,4 +49,4 @@ first-spec =
     (tie.spec
     (search needs) returns
     (search needs) returns-2
-    (search needs) (search needs) (λ c. search needs) (search needs) returns-3)
+    (search needs) (search needs) (λ c. search needs) add-accept (search needs) returns-3)

@@ -4,7 +4,7 @@ use Prim.Native.Nat.{ℕ}
 use native.Mathlib.Omega.{arith}
 use borrow.Author.Tests.{eq-eqb, ne-eqb}
 use Rattle.paper.specs.Requests as Q
-use Rattle.digests.proofs.Fit.{bytes-of}
+use Rattle.digests.proofs.Fit.{bytes-of, blocks-of}
 use Rattle.replies.proofs.Stages.{Met, begun, turned, passes, refuses, works, stops, issues}
 use Rattle.ring_kinds.proofs.Laws.{placed, tried-cost}
 use borrow.Author.Needs.{needs}
@@ -59,15 +59,17 @@ returns-6 c =
 
 add-accept : tie.Need-add-accept
 add-accept c =
-    let b = c .before .before .before .before .before .before in
+    let e = c .before .before .before .before in
+    let b = e .before .before .before in
     let a = b .before .before .before .before .before .before .before .before .before .before .before .before .args in
     let most = tried-cost (a .r .secret) (a .a .0) (a .an .0) (a .bn .0) (a .w) (a .y) (a .yn) (a .m) in
-    omega (arith, b .place-memo .ensures .1, most)
+    omega (arith, b .place-memo .ensures .1, most, blocks-of (e .ei .ensures))
 
 returns-7 : tie.Need-returns-7
 returns-7 c =
-    let b = c .before .before .before .before in
-    c .accept .ensures ∙ issues _ (fits (b .before)) (bytes-of (b .ei .ensures)) refl (omega arith)
+    let b = c .before .before .before .before .before in
+    let e = b .ei .ensures in
+    c .accept .ensures ∙ issues _ (fits (b .before)) (bytes-of e) refl (omega (arith, blocks-of e))
 
 pub place-spec : {M : Type 1} → statement M
 place-spec =

@@ -3,6 +3,7 @@ use mathlib.Core.Path.{_∙_}
 use native.Mathlib.Omega.{arith}
 use lib.ListN.{take}
 use Rattle.paper.specs.Requests as Q
+use Rattle.digests.proofs.Fit.{blocks-of}
 use Rattle.replies.proofs.Stages.{Met, begun, passes, refuses}
 use Rattle.tree_kinds.proofs.Laws.{path-answered}
 use borrow.Author.Needs.{needs}
@@ -17,9 +18,15 @@ opened c = passes (begun _ _ _) (c .if1 .left)
 returns : tie.Need-returns
 returns c = c .refuse .ensures ∙ refuses (begun _ _ _) (c .before .if1 .taken)
 
+add-accept-2 : tie.Need-add-accept-2
+add-accept-2 c =
+    let u = c .before .before .before .before .before .before in
+    let g = u .before .before .before in
+    omega (arith, g .before .fold .ensures .1, g .fold2 .ensures .1, blocks-of (u .u1 .ensures))
+
 returns-2 : tie.Need-returns-2
 returns-2 c =
-    let t = c .before .before .before .before in
+    let t = c .before .before .before .before .before in
     let u = t .before .before in
     let g = u .before .before .before in
     let f = g .before in
@@ -32,5 +39,5 @@ path-of-spec =
     tie.close
     (tie.spec
     (search needs) returns
-    (search needs) (search needs) (search needs) (search needs) (λ c. search needs) (λ c. search needs) (λ c. search needs)
+    (search needs) (search needs) (search needs) (search needs) (λ c. search needs) (λ c. search needs) add-accept-2
     (search needs) returns-2)
