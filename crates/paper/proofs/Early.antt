@@ -46,7 +46,7 @@ numbered-late D s (Q.askNone q) = refl
 numbered-late D s (Q.unlock k) = refl
 
 -- so there is no check of any other number
-none-of : (n : ℕ) (ns : List ℕ) (cs : List Check) → among n ns ≡ false → numbered ns cs ≡ true → those n cs ≡ []
+pub none-of : (n : ℕ) (ns : List ℕ) (cs : List Check) → among n ns ≡ false → numbered ns cs ≡ true → those n cs ≡ []
 none-of n ns [] a h = refl
 none-of n ns (c ∷ cs) a h =
     let p = both-true (among (c .number) ns) (numbered ns cs) h in

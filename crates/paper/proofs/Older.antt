@@ -22,7 +22,7 @@ use Rattle.paper.specs.Requests.{Request, setTo, recordIn, valuesIn, Kin
 use Rattle.paper.specs.Refusals.{Check, order, roomFor, replyRoom, isHex, top, nextRecord, numbersBefore, carried, leafOf, leafForms, changeForms, changeSays, needs, applies, formedAt, judge, Passed}
 use Rattle.paper.specs.Module.{frameChecks, Told, told, answerTo}
 use Rattle.paper.specs.Collisions.{Collision}
-use Rattle.paper.proofs.Verdicts.{firstOf, number-is, in-told, split-passed, passed-at, reached, passed-number}
+use Rattle.paper.proofs.Verdicts.{opposite-false, the-one, firstOf, number-is, in-told, split-passed, passed-at, reached, passed-number}
 use Rattle.paper.specs.Older.{Fits, Later, OlderGets8}
 
 -- ── where the number is 0 or 10, every other check is passed ──
@@ -110,15 +110,6 @@ before = numbersBefore 8 order
 fits-by : (b : Bool) → either (pick b false true) false ≡ false → b ≡ true
 fits-by true h = refl
 fits-by false h = absurd (true≢false h)
-
--- a frame that passes 3
-frame-fits : (b : Bool) → either (opposite b) false ≡ false → b ≡ true
-frame-fits true h = refl
-frame-fits false h = absurd (true≢false h)
-
-either-none : (b : Bool) → either b false ≡ false → b ≡ false
-either-none true h = h
-either-none false h = refl
 
 abbrev head-of : List Dig → Dig
 head-of [] = []
@@ -234,7 +225,7 @@ module _ (D : List ℕ → Dig) (D32 : (l : List ℕ) → length (D l) ≡ 32) w
     hash-long = rw not-blank (D32 (enc (entry new)))
 
     y-long : Passed before checks → length (l .y) ≡ 32
-    y-long h = l .wide (frame-fits (fits (bytesOf line)) (passed-at 3 before checks h refl))
+    y-long h = l .wide (opposite-false (fits (bytesOf line)) (the-one (passed-at 3 before checks h refl)))
 
   -- ── two counters ──
 
@@ -263,7 +254,7 @@ module _ (D : List ℕ → Dig) (D32 : (l : List ℕ) → length (D l) ≡ 32) w
     below : s .counter .0 < top
     below =
         let u = L .in-register in
-        let n = eqb-false (s .counter .0) top (either-none (eqb (s .counter .0) top) (passed-at 7 before now now-passed refl)) in
+        let n = eqb-false (s .counter .0) top (the-one (passed-at 7 before now now-passed refl)) in
         omega (arith, n)
 
     one-memorandum : l₀ .m ≡ l .m

@@ -1,22 +1,22 @@
 -- Document 01's shortcuts are refused: each by the check that the shortcut leaves out.
-use mathlib.Core.Path.{_≡_, refl, sym, ap, subst, _∙_}
+use mathlib.Core.Path.{_≡_, refl, sym, subst, _∙_}
 use mathlib.Core.Bool.{Bool, true, false, true≢false}
-use mathlib.Core.List.{List, [], _∷_, _++_, List·Memᴰ, List·Memᴰ·head, List·Memᴰ·tail, List·Memᴰ·append-cases, Memᴰ·append-right}
+use mathlib.Core.List.{List, [], _∷_, List·Memᴰ, List·Memᴰ·head, List·Memᴰ·tail, List·Memᴰ·append-cases, Memᴰ·append-right}
 use mathlib.Core.Logic.{_⊎_, inl, inr}
 use Prim.Native.Nat.{ℕ}
 use borrow.Author.Tests.{eqb-true}
 use lib.Dec.{eqb}
 use lib.ListN.{length}
-use Rattle.seqs.specs.Choose.{pick, both, either, both-true, either-yes, _and_}
+use Rattle.seqs.specs.Choose.{pick, either, both-true, either-yes, _and_}
 use Rattle.seqs.specs.Bytes.{same, same-true, same-refl}
 use Rattle.hex.specs.Hex.{bytesOf}
 use Rattle.paper.specs.declared.Record.{Record}
 use Rattle.paper.specs.declared.Registers.{Registers}
-use Rattle.paper.specs.Strings.{Dig, nought, Memo, u1, v1, u2, ei, Str, memo, enc, digest, memorandum}
+use Rattle.paper.specs.Strings.{Dig, nought, Memo, u1, v1, u2, ei, Str, memo, digest, memorandum}
 use Rattle.paper.specs.Requests as Q
 use Rattle.paper.specs.Requests.{Request, requestOf}
-use Rattle.paper.specs.Refusals.{Check, plain, order, requestOrder, compared, noneFits, tried, first-memo, second-memo, nextRecord, clearedRecord, placeForms, placeSays, leafOf, leafForms, changeForms, changeSays, needs, carried, those, applies, formedAt, formedBy, judge, numbersBefore, Passed}
-use Rattle.paper.specs.Module.{refusalOf, checksOf}
+use Rattle.paper.specs.Refusals.{Check, plain, order, requestOrder, compared, noneFits, tried, first-memo, second-memo, nextRecord, clearedRecord, placeForms, placeSays, leafOf, leafForms, changeForms, changeSays, needs, carried, those, applies, formedAt, formedBy, numbersBefore, Passed}
+use Rattle.paper.specs.Module.{checksOf}
 use Rattle.paper.specs.Collisions.{Collision}
 use Rattle.paper.specs.Shortcuts.{verdictOn, refusalFor, Shortcuts}
 use Rattle.paper.proofs.Early.{among, numbered, numbered-late}

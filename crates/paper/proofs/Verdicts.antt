@@ -6,7 +6,7 @@ use mathlib.Core.Logic.{_⊎_, inl, inr}
 use Prim.Native.Nat.{ℕ}
 use borrow.Author.Tests.{eqb-true, eq-eqb}
 use lib.Dec.{eqb}
-use Rattle.seqs.specs.Choose.{pick, either}
+use Rattle.seqs.specs.Choose.{pick, either, opposite, either-no}
 use Rattle.paper.specs.declared.Registers.{Registers}
 use Rattle.paper.specs.Strings.{Dig, Str}
 use Rattle.paper.specs.Requests.{Request}
@@ -14,6 +14,20 @@ use Rattle.paper.specs.Refusals.{Check, those, anyFails, formsAll, appli
 use Rattle.paper.specs.Answers.{answer}
 use Rattle.paper.specs.Module.{refusalOf, told}
 use Rattle.paper.proofs.Early.{among}
+
+-- ── the tests of checks that do not fail ──
+
+pub opposite-false : (b : Bool) → opposite b ≡ false → b ≡ true
+opposite-false true h = refl
+opposite-false false h = absurd (true≢false h)
+
+either-false : (a b : Bool) → either a b ≡ false → (a ≡ false) × (b ≡ false)
+either-false true b h = absurd (true≢false h)
+either-false false b h = (refl, h)
+
+-- where a number has one check, that check's test
+pub the-one : {b : Bool} → either b false ≡ false → b ≡ false
+the-one {b} h = sym (either-no b) ∙ h
 
 -- ── a check in its list ──
 
@@ -30,10 +44,6 @@ in-those c (d ∷ cs) (List·Memᴰ·tail m) = behind (eqb (d .number) (c .numbe
         → List·Memᴰ c (pick b (d ∷ those (c .number) cs) (those (c .number) cs))
     behind true i = List·Memᴰ·tail i
     behind false i = i
-
-either-false : (a b : Bool) → either a b ≡ false → (a ≡ false) × (b ≡ false)
-either-false true b h = absurd (true≢false h)
-either-false false b h = (refl, h)
 
 pub fails-not : (c : Check) (cs : List Check) → anyFails cs ≡ false → List·Memᴰ c cs → c .fails ≡ false
 fails-not c (d ∷ cs) h (List·Memᴰ·head e) = ap (λ (x : Check). x .fails) e ∙ either-false (d .fails) (anyFails cs) h .0

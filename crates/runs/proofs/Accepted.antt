@@ -1,10 +1,10 @@
--- An accepted request: no check of its list fails, and every string of its checks and its answer is formed. And back: where
--- no check fails, it is accepted.
+-- An accepted request: no check applies, whichever its number, and the strings of the checks of every number are formed. So
+-- proofs find a check by its number, not by its place in the list. And back: where no check fails, it is accepted.
 use mathlib.Core.Path.{_≡_, refl, sym, ap, subst, _∙_}
 use mathlib.Core.Bool.{Bool, true, false, true≢false}
-use mathlib.Core.List.{List, [], _∷_, _++_, List·Memᴰ, List·Memᴰ·head, List·Memᴰ·tail, Memᴰ·append-left, Memᴰ·append-right}
+use mathlib.Core.List.{List, [], _∷_, _++_, List·Memᴰ, Memᴰ·append-left, Memᴰ·append-right}
 use Prim.Native.Nat.{ℕ}
-use borrow.Author.Tests.{eqb-true, eq-eqb}
+use borrow.Author.Tests.{eqb-true}
 use lib.Dec.{eqb}
 use Rattle.seqs.specs.Choose.{pick, both, either, opposite, both-true}
 use Rattle.paper.specs.declared.Registers.{Registers}
@@ -12,34 +12,29 @@ use Rattle.paper.specs.Strings.{Dig, Str}
 use Rattle.paper.specs.Requests.{Request}
 use Rattle.paper.specs.Refusals.{Check, those, anyFails, formsAll, applies, formedAt, passed, judge, Passed}
 use Rattle.paper.specs.Module.{Told, told}
-use Rattle.paper.proofs.Early.{among, numbered}
-use Rattle.paper.proofs.Verdicts.{firstOf, number-is, in-those, fails-not, in-forms, passed-at}
+use Rattle.paper.proofs.Early.{among, numbered, none-of}
+use Rattle.paper.proofs.Verdicts.{firstOf, number-is, passed-at}
 
--- the test of a check that does not fail
-pub opposite-false : (b : Bool) → opposite b ≡ false → b ≡ true
-opposite-false true h = refl
-opposite-false false h = absurd (true≢false h)
+-- ── passed, number by number ──
+
+-- no check of any number applies
+abbrev pub NoneApplies : List Check → Type 0
+NoneApplies cs = (n : ℕ) → applies n cs ≡ false
+
+pub none-applies : (ns : List ℕ) (cs : List Check) → Passed ns cs → numbered ns cs ≡ true → NoneApplies cs
+none-applies ns cs h k n = here (among n ns) refl
+  where
+    here : (b : Bool) → among n ns ≡ b → applies n cs ≡ false
+    here true a = passed-at n ns cs h a
+    here false a = ap anyFails (none-of n ns cs a k)
+
+-- ── and back, check by check ──
 
 -- none of some checks fails
 abbrev pub NoneFails : List Check → Type 0
 NoneFails [] = Unit {0}
 NoneFails (c ∷ cs) = (c .fails ≡ false) × NoneFails cs
 
--- ── passed, number by number and check by check ──
-
-none-of : (ns : List ℕ) (cs ds : List Check) → Passed ns cs → numbered ns ds ≡ true
-    → ((c : Check) → List·Memᴰ c ds → List·Memᴰ c cs) → NoneFails ds
-none-of ns cs [] h k sub = tt
-none-of ns cs (d ∷ ds) h k sub =
-    let p = both-true (among (d .number) ns) (numbered ns ds) k in (
-      fails-not d (those (d .number) cs) (passed-at (d .number) ns cs h (p .0)) (in-those d cs (sub d (List·Memᴰ·head refl))),
-      none-of ns cs ds h (p .1) (λ c m. sub c (List·Memᴰ·tail m)),
-    )
-
-pub none-fails : (ns : List ℕ) (cs : List Check) → Passed ns cs → numbered ns cs ≡ true → NoneFails cs
-none-fails ns cs h k = none-of ns cs cs h k (λ c m. m)
-
--- and back
 applies-not : (n : ℕ) (cs : List Check) → NoneFails cs → applies n cs ≡ false
 applies-not n [] h = refl
 applies-not n (c ∷ cs) h = here (eqb (c .number) n) (applies-not n cs (h .1))
@@ -108,7 +103,11 @@ at-number x n (i ∷ ns) fs cs a m = here (eqb i n) refl a (λ k. at-number x n 
         (Memᴰ·append-left fs (subst (λ (j : ℕ). List·Memᴰ x (formedAt j cs)) (sym (eqb-true i n e)) m))
     here false e a later = later a
 
--- a check's strings are among them
-pub check-formed : (x : Str) (c : Check) (ns : List ℕ) (cs : List Check) → List·Memᴰ c cs → among (c .number) ns ≡ true
-    → List·Memᴰ x (c .forms) → List·Memᴰ x (formedAll ns [] cs)
-check-formed x c ns cs i a m = at-number x (c .number) ns [] cs a (in-forms x c (those (c .number) cs) (in-those c cs i) m)
+-- the strings of every number are among them
+pub number-formed : (ns : List ℕ) (cs : List Check) → numbered ns cs ≡ true → (n : ℕ) (x : Str) → List·Memᴰ x (formedAt n cs)
+    → List·Memᴰ x (formedAll ns [] cs)
+number-formed ns cs k n x m = here (among n ns) refl
+  where
+    here : (b : Bool) → among n ns ≡ b → List·Memᴰ x (formedAll ns [] cs)
+    here true a = at-number x n ns [] cs a m
+    here false a = elim (subst (λ (l : List Check). List·Memᴰ x (formsAll l)) (none-of n ns cs a k) m) [ ]

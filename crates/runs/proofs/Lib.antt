@@ -4,8 +4,8 @@
 -- Widths      a request read from a sound frame has digests of 32 bytes and numbers of 8
 -- Parts       what a row of the table of kinds carries, written and read back
 -- Frames      a request written as a line reads back as that request
--- Accepted    accepted: no check fails and every check's strings are formed; and back
--- Lines       what any line comes to: refused, or accepted with no check of its request failing
+-- Accepted    accepted: no check applies, by its number, and the strings of each are formed; and back
+-- Lines       what any line comes to: refused, or accepted with no check of its request applying
 --
 -- Any run is safe or has ended
 -- Formed      every string formed is well formed; a module that is not open forms none

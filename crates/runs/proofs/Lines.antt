@@ -1,25 +1,24 @@
 -- What any line comes to: it is refused, early and with no string formed or by a check of its request, or it is accepted, no
--- check of its request failing.
+-- check of its request applying.
 use mathlib.Core.Path.{_≡_, refl, sym, ap, subst, _∙_}
 use mathlib.Core.Bool.{Bool, true, false, true≢false}
-use mathlib.Core.List.{List, [], _∷_, List·Memᴰ, List·Memᴰ·head, List·Memᴰ·tail}
+use mathlib.Core.List.{List, [], _∷_, List·Memᴰ}
 use mathlib.Core.Logic.{_⊎_, inl, inr}
 use Prim.Native.Nat.{ℕ}
 use native.Mathlib.Omega.{arith}
 use lib.Dec.{ltb}
-use Rattle.seqs.specs.Choose.{both-true}
 use Rattle.seqs.specs.Bytes.{Bytes}
 use Rattle.hex.specs.Hex.{bytesOf}
 use Rattle.hex.proofs.Laws.{value-small}
 use Rattle.paper.specs.declared.Registers.{Registers}
 use Rattle.paper.specs.Strings.{Dig, Str}
 use Rattle.paper.specs.Requests.{Request, kindOf, known, fits, requestOf}
-use Rattle.paper.specs.Refusals.{replyRoom, isHex, Check, needs, Verdict, refused, passed, formedBy, judge}
+use Rattle.paper.specs.Refusals.{replyRoom, isHex, Check, needs, formedAt, Verdict, refused, passed, formedBy, judge}
 use Rattle.paper.specs.Module.{Told, told, answerTo}
-use Rattle.paper.proofs.Early.{late, among, numbered, numbered-late, none-early}
+use Rattle.paper.proofs.Early.{late, numbered-late, none-early}
 use Rattle.rings.specs.Meanings.{Within}
 use Rattle.runs.specs.Run.{Turn}
-use Rattle.runs.proofs.Accepted.{NoneFails, none-fails, judge-passed, accepted-passed, check-formed}
+use Rattle.runs.proofs.Accepted.{NoneApplies, none-applies, judge-passed, accepted-passed, number-formed}
 use Rattle.runs.proofs.Widths.{Wide, wide}
 
 -- two digits make a byte
@@ -27,11 +26,6 @@ line-bytes : (l : List ℕ) → Bytes (bytesOf l)
 line-bytes [] = tt
 line-bytes (a ∷ []) = tt
 line-bytes (a ∷ b ∷ l) = (omega (arith, value-small a, value-small b), line-bytes l)
-
-among-late : (ns : List ℕ) (c : Check) (cs : List Check) → numbered ns cs ≡ true → List·Memᴰ c cs → among (c .number) ns ≡ true
-among-late ns c (d ∷ cs) h (List·Memᴰ·head e) =
-    subst (λ (x : Check). among (x .number) ns ≡ true) (sym e) (both-true (among (d .number) ns) (numbered ns cs) h .0)
-among-late ns c (d ∷ cs) h (List·Memᴰ·tail m) = among-late ns c cs (both-true (among (d .number) ns) (numbered ns cs) h .1) m
 
 isPassed : Verdict → Bool
 isPassed (refused n fs) = false
@@ -58,7 +52,7 @@ module _ (D : List ℕ → Dig) (s : Registers) (line : List ℕ) (space : ℕ) 
     refusal : (n : ℕ) (fs : List Str) → (n ≡ 0 → ⊥) → answerTo D s line space ≡ told D s (kindOf f) q (refused n fs)
         → (fs ≡ []) ⊎ (Wide q × (judge late [] cs ≡ refused n fs)) → Sorted
     acceptance : (fs : List Str) → answerTo D s line space ≡ told D s (kindOf f) q (passed fs) → Wide q
-        → judge late [] cs ≡ passed fs → NoneFails cs → ((c : Check) → List·Memᴰ c cs → Within (c .forms) fs) → Sorted
+        → judge late [] cs ≡ passed fs → NoneApplies cs → ((n : ℕ) → Within (formedAt n cs) fs) → Sorted
 
   -- ── a line that is read ──
 
@@ -79,10 +73,9 @@ module _ (D : List ℕ → Dig) (s : Registers) (line : List ℕ) (space : ℕ) 
   by-verdict (passed fs) j h e =
       let p = accepted-passed D s (kindOf f) q late cs refl (ap (λ (v : Verdict). told D s (kindOf f) q v .refusal) j) in
       let all = numbered-late D s q in
-      acceptance fs e h j (none-fails late cs p all)
-      (λ c i x m.
-      subst (λ (l : List Str). List·Memᴰ x l) (ap formedBy (sym (judge-passed late [] cs p) ∙ j))
-      (check-formed x c late cs i (among-late late c cs all i) m))
+      acceptance fs e h j (none-applies late cs p all)
+      (λ n x m.
+      subst (List·Memᴰ x) (ap formedBy (sym (judge-passed late [] cs p) ∙ j)) (number-formed late cs all n x m))
 
   -- ── any line ──
 

@@ -6,7 +6,7 @@ use mathlib.Core.List.{List, [], _∷_, _++_, reverseAux, List·Memᴰ}
 use mathlib.Core.Logic.{_⊎_, inl, inr}
 use Prim.Native.Nat.{ℕ}
 use lib.ListN.{length}
-use Rattle.seqs.specs.Choose.{either}
+use Rattle.seqs.specs.Choose.{either, either-no}
 use Rattle.seqs.specs.Bytes.{same}
 use Rattle.paper.specs.declared.Registers.{Registers}
 use Rattle.paper.specs.Strings.{Dig, Str, digest}
@@ -52,10 +52,6 @@ issued-reverse m (i ∷ b) c =
     issued-reverse m b (i ∷ c) ∙ sym (either-assoc (isIssued m b) (same (i .memorandum) m) (isIssued m c))
     ∙ ap (λ (x : Bool). either x (isIssued m c)) (either-swap (isIssued m b) (same (i .memorandum) m))
 
-either-false : (a : Bool) → either a false ≡ a
-either-false true = refl
-either-false false = refl
-
 -- ── worlds that differ in their reading alone ──
 
 pub record Alike (v w : World) : Type 0 where
@@ -68,7 +64,7 @@ alike-latest w =
     record {
       registers = refl;
       formed = refl;
-      issued = λ m. issued-reverse m (w .book) [] ∙ either-false (isIssued m (w .book));
+      issued = λ m. issued-reverse m (w .book) [] ∙ either-no (isIssued m (w .book));
     }
 
 module _ (D : List ℕ → Dig) where

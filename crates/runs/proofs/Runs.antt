@@ -3,7 +3,7 @@
 use mathlib.Core.Path.{_≡_, refl, sym, subst}
 use mathlib.Core.List.{List, [], _∷_, _++_, Memᴰ·append-left, Memᴰ·append-right}
 use mathlib.Core.Logic.{_⊎_, inl, inr}
-use Prim.Native.Nat.{ℕ, _+_}
+use Prim.Native.Nat.{ℕ}
 use lib.ListN.{length}
 use Rattle.sha256.specs.Hash.{sha256}
 use Rattle.sha256.proofs.Digests.{sha256-length}
@@ -48,9 +48,9 @@ module _ (D : List ℕ → Dig) (D32 : (l : List ℕ) → length (D l) ≡ 32) w
       by-sort (acceptance fs e h j n i) = subst (Out by w (asked t)) (sym e) (do
         let own = answer D (w .registers) (asked t) .forms
         let given : Given D w ((own ++ fs) ++ w .formed) (asked t) = record {
-          none-fails = n;
+          passes = n;
           of-answer = λ x m. Memᴰ·append-left (w .formed) (Memᴰ·append-left fs m);
-          of-check = λ d l x m. Memᴰ·append-left (w .formed) (Memᴰ·append-right own (i d l x m));
+          of-number = λ k x m. Memᴰ·append-left (w .formed) (Memᴰ·append-right own (i k x m));
           wide = h;
         }
         r ← instead (λ x. elim x [ inl f ↦ inl f | inr f ↦ inr (refl, f) ]) (accepted D D32 by w (kindIn t) fs c (asked t) given)

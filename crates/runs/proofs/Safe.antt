@@ -2,14 +2,14 @@
 -- line keeps it, its answer is true and what it does is legal, or a fault or a forgery can be shown.
 use mathlib.Core.Path.{_≡_, refl, sym, ap, subst, _∙_}
 use mathlib.Core.Bool.{Bool, true, false, true≢false}
-use mathlib.Core.List.{List, [], _∷_, _++_, List·Memᴰ, List·Memᴰ·tail, Memᴰ·append-left, Memᴰ·append-right}
+use mathlib.Core.List.{List, [], _∷_, _++_, List·Memᴰ, List·Memᴰ·head, List·Memᴰ·tail, Memᴰ·append-left, Memᴰ·append-right}
 use mathlib.Core.Logic.{_⊎_, inl, inr}
 use Prim.Native.Nat.{ℕ, _+_}
 use native.Mathlib.Omega.{arith}
 use borrow.Author.Tests.{eqb-true, eqb-false, ne-eqb}
 use lib.Dec.{eqb}
 use lib.ListN.{length}
-use Rattle.seqs.specs.Choose.{pick, either, opposite}
+use Rattle.seqs.specs.Choose.{pick, either}
 use Rattle.seqs.specs.Bytes.{same, same-true}
 use Rattle.paper.specs.declared.Record.{Record}
 use Rattle.paper.specs.declared.Values.{Values}
@@ -17,13 +17,14 @@ use Rattle.paper.specs.declared.Registers.{Registers}
 use Rattle.paper.specs.Strings.{Dig, nought, emptyRecord, Memo, u1, v1, u2, ei, Str, leaf, memo, digest, malformed, blank, recordForms, inGap, parentForms, foldForms}
 use Rattle.paper.specs.Requests as Q
 use Rattle.paper.specs.Requests.{Request}
-use Rattle.paper.specs.Refusals.{Check, nextRecord, clearedRecord, placeForms, placeSays, noneFits, tried, leafOf, leafForms, changeForms, changeSays, needs, passed, carried}
+use Rattle.paper.specs.Refusals.{isRoot, first-memo, nextRecord, clearedRecord, placeForms, placeSays, noneFits, tried, leafOf, leafForms, changeForms, changeSays, needs, those, applies, passed}
 use Rattle.paper.specs.Answers.{Change, none′, issues, changes, answer, findingOf}
 use Rattle.paper.specs.Module.{Told, told}
 use Rattle.paper.specs.declared.Finding.the-variants.{Recorded, Listed, Gap}
+use Rattle.paper.proofs.Verdicts.{opposite-false, the-one}
 use Rattle.rings.specs.Trees.{Tree, hashOf}
 use Rattle.rings.specs.Lists.{item}
-use Rattle.rings.specs.Meanings.{_∈_, Within, Known, known-empty, known-recorded, StandsFor, Means}
+use Rattle.rings.specs.Meanings.{Within, Known, known-empty, known-recorded, StandsFor, Means}
 use Rattle.rings.proofs.Nodes.{_>>=_, instead}
 use Rattle.rings.proofs.Memos.{stands-more}
 use Rattle.rings.proofs.Bridge.{hash-is, known-by}
@@ -35,9 +36,8 @@ use Rattle.runs.specs.Run.{Reading, Items, standsFor, meaning, World, la
 use Rattle.runs.specs.Safety.{TrueFinding, LegalEffect}
 use Rattle.runs.specs.Also.{AllBacked}
 use Rattle.runs.proofs.Book.{entered-none, book-more, book-enter}
-use Rattle.runs.proofs.Accepted.{opposite-false}
 use Rattle.runs.proofs.Carried as C
-use Rattle.runs.proofs.Carried.{at0, at1, at2, at5, at6, Given, Or}
+use Rattle.runs.proofs.Carried.{Given, Or, Asked, asked-at}
 
 -- a well formed record with revision 0 is the empty one
 blank-empty : (r : Record) → blank r ≡ true → malformed r ≡ false → r ≡ emptyRecord
@@ -143,14 +143,20 @@ module _ (D : List ℕ → Dig) (D32 : (l : List ℕ) → length (D l) ≡ 32) w
     standing : (q : Request) → StandsFor dig (G q) (v .tree) (w .items)
     standing q = stands-more dig (more (a q) w) (v .stands)
 
-    -- the check that y is the root
-    at-root : (y : Dig) → opposite (same y (s .root)) ≡ false → hashOf D (v .tree) ≡ y
-    at-root y h = v .root ∙ sym (same-true y (s .root) (opposite-false (same y (s .root)) h))
+    -- 10: y is the root
+    at-root : (y : Dig) → applies 10 (isRoot s y ∷ []) ≡ false → hashOf D (v .tree) ≡ y
+    at-root y h = v .root ∙ sym (same-true y (s .root) (opposite-false (same y (s .root)) (the-one h)))
 
-    -- a memorandum that a check c asks to say t
-    means : {q : Request} (g : GivenTo q) (t : Memo) (m : Dig) → List·Memᴰ m (carried D s q) → {c : Check} → List·Memᴰ c (needs D s q)
-        → memo t key ∈ c .forms → noneFits D key (t ∷ []) m ≡ false → Or D w (G q) q (Means dig (G q) t (standsFor m (w .book)))
-    means {q} g t m i {c} j k h = C.means D w (G q) (backed q) q t m i (g .of-check c j _ k) h
+    -- a memorandum that the check of number n asks to say t, behind other strings or none
+    means-after : {q : Request} {l : List Str} {t : Memo} {m : Dig} → Asked D w (G q) q l (t ∷ []) m
+        → Or D w (G q) q (Means dig (G q) t (standsFor m (w .book)))
+    means-after {q} {l} {t} {m} a = C.means D w (G q) (backed q) t m a
+
+    means : {q : Request} (g : GivenTo q) (n : ℕ) (t : Memo) (m : Dig)
+        → those n (needs D s q)
+        ≡ record { number = n; fails = noneFits D key (t ∷ []) m; forms = tried D key (t ∷ []) m; compares = m ∷ [] } ∷ []
+        → Or D w (G q) q (Means dig (G q) t (standsFor m (w .book)))
+    means {q} g n t m e = means-after (asked-at D w (G q) g n [] (t ∷ []) m e)
 
     -- a line that issues a memorandum whose meaning is known; it is the first string that its answer forms
     issued : {q : Request} (g : GivenTo q) {t : Memo} {c : Change} {l : List Str} → answer D s q .after ≡ s
@@ -165,7 +171,7 @@ module _ (D : List ℕ → Dig) (D32 : (l : List ℕ) → length (D l) ≡ 32) w
             book =
                 rw e₂
                 (book-enter D by (w .book) _ (backed q)
-                (record { says = t; key = key; formed = g .of-answer _ (rw e₃ at0); memorandum-is = refl; means = m }));
+                (record { says = t; key = key; formed = g .of-answer _ (rw e₃ (List·Memᴰ·head refl)); memorandum-is = refl; means = m }));
             counter = rw e₂ (ap (λ (r : Registers). r .counter .0) e₁ ∙ v .counter);
           },
           tr,
@@ -173,18 +179,16 @@ module _ (D : List ℕ → Dig) (D32 : (l : List ℕ) → length (D l) ≡ 32) w
         )
 
     -- a record that changes
-    changed : {q : Request} (g : GivenTo q) (A A′ : ℕ) (old new : Record) (y y′ m : Dig) → List·Memᴰ m (carried D s q)
-        → Within (changeForms D A A′ old new ++ tried D key (changeSays D A A′ old new y y′ ∷ []) m) (G q)
-        → malformed old ≡ false → malformed new ≡ false
-        → noneFits D key (changeSays D A A′ old new y y′ ∷ []) m ≡ false → opposite (same y (s .root)) ≡ false
+    changed : {q : Request} → GivenTo q → (A A′ : ℕ) (old new : Record) (y y′ m : Dig)
+        → those 8 (needs D s q) ≡ first-memo D s (changeForms D A A′ old new) (changeSays D A A′ old new y y′ ∷ []) m ∷ []
+        → malformed old ≡ false → malformed new ≡ false → hashOf D (v .tree) ≡ y
         → answer D s q .after .root ≡ y′ → answer D s q .after .counter .0 ≡ s .counter .0 + 1
         → answer D s q .effect ≡ changes A new → TrueFor D q (w .items) → (blank new ≡ true → blank old ≡ false)
         → (new .revision .0 ≡ s .counter .0 + 1) ⊎ (new ≡ clearedRecord) → Comes q
-    changed {q} g A A′ old new y y′ m i forms ok ok′ fit r e₁ e₂ e₃ tr full next = do
-      let t = changeSays D A A′ old new y y′
-      u ← C.means D w (G q) (backed q) q t m i (forms _ (Memᴰ·append-right (changeForms D A A′ old new) at0)) fit
-      p ← instead inl (P.put D D32 (G q) A A′ old new (v .tree) (w .items) ok ok′ (λ x j. forms x (Memᴰ·append-left _ j)) u
-          (at-root y r) (standing q))
+    changed {q} g A A′ old new y y′ m e ok ok′ r e₁ e₂ e₃ tr full next = do
+      let a = asked-at D w (G q) g 8 (changeForms D A A′ old new) (changeSays D A A′ old new y y′ ∷ []) m e
+      u ← means-after a
+      p ← instead inl (P.put D D32 (G q) A A′ old new (v .tree) (w .items) ok ok′ (a .formed-before) u r (standing q))
       inr (
         record {
           tree = p .tree;
@@ -217,50 +221,48 @@ module _ (D : List ℕ → Dig) (D32 : (l : List ℕ) → length (D l) ≡ 32) w
         (path D D32 (G q) x x′ sides l (g .wide .0) (g .wide .1) (g .wide .2)
         (λ t m. i t (Memᴰ·append-right (foldForms D x′ sides l) m)) (λ t m. i t (Memᴰ·append-left _ m)))
     accepted (Q.witness x y m) g = do
-      u ← means g (u1 x y x y) m at0 at1 at0 (g .none-fails .1 .0)
+      u ← means g 8 (u1 x y x y) m refl
       issued g refl refl refl tt (T.witness dig u)
     accepted (Q.join x y x′ y′ m1 z z′ m2) g = do
-      u ← means g (u1 x y x′ y′) m1 at0 at1 at0 (g .none-fails .1 .0)
-      v ← means g (u1 y z y′ z′) m2 at1 at2 at0 (g .none-fails .1 .1 .0)
+      u ← means g 8 (u1 x y x′ y′) m1 refl
+      v ← means g 9 (u1 y z y′ z′) m2 refl
       issued g refl refl refl tt (T.join dig u v)
     accepted (Q.pair x1 y x1′ y′ m1 x2 z x2′ z′ m2) g = do
       let q = Q.pair x1 y x1′ y′ m1 x2 z x2′ z′ m2
       let i : Within (parentForms y′ z′ ++ parentForms y z) (G q) = λ t m. g .of-answer t (List·Memᴰ·tail m)
-      u ← means g (u1 x1 y x1′ y′) m1 at0 at1 at0 (g .none-fails .1 .0)
-      v ← means g (u1 x2 z x2′ z′) m2 at1 at2 at0 (g .none-fails .1 .1 .0)
+      u ← means g 8 (u1 x1 y x1′ y′) m1 refl
+      v ← means g 9 (u1 x2 z x2′ z′) m2 refl
       issued g refl refl refl tt (P.pair D D32 (G q) (g .wide .1) (g .wide .5) (g .wide .3) (g .wide .7)
           (λ t m. i t (Memᴰ·append-right (parentForms y′ z′) m)) (λ t m. i t (Memᴰ·append-left _ m)) u v)
     accepted (Q.raise x1 x2 y x1′ x2′ y′ m1 z z′ m2) g = do
-      u ← means g (u2 x1 x2 y x1′ x2′ y′) m1 at0 at1 at0 (g .none-fails .1 .0)
-      v ← means g (u1 y z y′ z′) m2 at1 at2 at0 (g .none-fails .1 .1 .0)
+      u ← means g 8 (u2 x1 x2 y x1′ x2′ y′) m1 refl
+      v ← means g 9 (u1 y z y′ z′) m2 refl
       issued g refl refl refl tt (T.raise dig u v)
     accepted (Q.swap x1 x2 y y′ m) g = do
-      u ← means g (u2 x1 x2 y x2 x1 y′) m at0 at1 at0 (g .none-fails .1 .0)
+      u ← means g 8 (u2 x1 x2 y x2 x1 y′) m refl
       issued g refl refl refl tt (R.swap dig u)
     accepted (Q.first A) g =
         issued g refl refl refl tt
-        (R.first dig A (omega (arith, eqb-false A 0 (g .none-fails .1 .0))) (g .of-answer _ at1))
+        (R.first dig A (omega (arith, eqb-false A 0 (the-one (g .passes 4)))) (g .of-answer _ (List·Memᴰ·tail (List·Memᴰ·head refl))))
     accepted (Q.place A A′ B′ ω y y′ m) g = do
       let q = Q.place A A′ B′ ω y y′ m
       let x1 = dig (leaf A A′ ω)
       let x1′ = dig (leaf A B′ ω)
       let x2 = dig (leaf A′ B′ nought)
-      let forms : Within (placeForms A A′ B′ ω ++ tried D key (placeSays D A A′ B′ ω y y′) m) (G q) = g .of-check _ at5
-      u ← C.means-either D w (G q) (backed q) q (u2 x1 x2 y x1′ nought y′) (u2 x2 x1 y nought x1′ y′) m at0
-          (λ t i. forms t (Memᴰ·append-right (placeForms A A′ B′ ω) i)) (g .none-fails .1 .1 .1 .1 .1 .0)
-      issued g refl refl refl tt (P.place D D32 (G q) A A′ B′ ω (opposite-false _ (g .none-fails .1 .1 .1 .1 .0))
-          (λ t i. forms t (Memᴰ·append-left _ i)) u)
+      let c = asked-at D w (G q) g 8 (placeForms A A′ B′ ω) (placeSays D A A′ B′ ω y y′) m refl
+      u ← C.means-either D w (G q) (backed q) (u2 x1 x2 y x1′ nought y′) (u2 x2 x1 y nought x1′ y′) m c
+      issued g refl refl refl tt (P.place D D32 (G q) A A′ B′ ω (opposite-false _ (the-one (g .passes 6))) (c .formed-before) u)
     accepted (Q.turn x y m) g = do
-      u ← means g (ei x y) m at0 at1 at0 (g .none-fails .1 .0)
+      u ← means g 8 (ei x y) m refl
       issued g refl refl refl tt (R.turn dig u)
     accepted (Q.chain x y m1 z m2) g = do
-      u ← means g (ei x y) m1 at0 at1 at0 (g .none-fails .1 .0)
-      v ← means g (ei y z) m2 at1 at2 at0 (g .none-fails .1 .1 .0)
+      u ← means g 8 (ei x y) m1 refl
+      v ← means g 9 (ei y z) m2 refl
       issued g refl refl refl tt (R.chain dig u v)
     accepted (Q.adopt y y′ m) g = do
       let q = Q.adopt y y′ m
-      u ← means g (ei y y′) m at0 at1 at0 (g .none-fails .1 .0)
-      p ← instead inl (P.adopt D D32 (G q) (v .tree) (w .items) u (at-root y (g .none-fails .1 .1 .0)) (standing q))
+      u ← means g 8 (ei y y′) m refl
+      p ← instead inl (P.adopt D D32 (G q) (v .tree) (w .items) u (at-root y (g .passes 10)) (standing q))
       inr (
         record {
           tree = p .tree;
@@ -273,29 +275,25 @@ module _ (D : List ℕ → Dig) (D32 : (l : List ℕ) → length (D l) ≡ 32) w
         p .legal,
       )
     accepted (Q.setTo A A′ old v y y′ m) g =
-        let h = g .none-fails .1 .1 .1 in
-        changed g A A′ old (nextRecord s v) y y′ m at0 (g .of-check _ at5) (h .0) (set-sound v) (h .1 .1 .0)
-        (h .1 .1 .1 .0) refl refl refl tt (λ e. absurd (true≢false (sym e ∙ set-recorded v))) (inl refl)
+        changed g A A′ old (nextRecord s v) y y′ m refl (the-one (g .passes 5)) (set-sound v) (at-root y (g .passes 10)) refl refl refl tt
+        (λ e. absurd (true≢false (sym e ∙ set-recorded v))) (inl refl)
     accepted (Q.clear A A′ old y y′ m) g =
-        let h = g .none-fails .1 .1 .1 in
-        changed g A A′ old clearedRecord y y′ m at0 (g .of-check _ at6) (h .0) cleared-sound (h .1 .1 .1 .0) (h .1 .1 .1 .1 .0)
-        refl refl refl tt (λ e. h .1 .0) (inr refl)
+        changed g A A′ old clearedRecord y y′ m refl (the-one (g .passes 5)) cleared-sound (at-root y (g .passes 10)) refl refl refl tt
+        (λ e. the-one (g .passes 11)) (inr refl)
     accepted (Q.ask n A A′ r y m) g = do
       let q = Q.ask n A A′ r y m
-      let h = g .none-fails .1 .1 .1 .1
-      let t = v1 (dig (leafOf D A A′ r)) y
-      let forms : Within (leafForms D A A′ r ++ tried D key (t ∷ []) m) (G q) = g .of-check _ at6
-      u ← means g t m at0 at6 (Memᴰ·append-right (leafForms D A A′ r) at0) (h .1 .1 .0)
-      f ← instead inl (P.ask D D32 (G q) A A′ r (v .tree) (w .items) (h .0) (λ x i. forms x (Memᴰ·append-left _ i)) u
-          (at-root y (h .1 .1 .1 .0)) (standing q))
+      let c = asked-at D w (G q) g 8 (leafForms D A A′ r) (v1 (dig (leafOf D A A′ r)) y ∷ []) m refl
+      let ok : malformed r ≡ false = the-one (g .passes 5)
+      u ← means-after c
+      f ← instead inl (P.ask D D32 (G q) A A′ r (v .tree) (w .items) ok (c .formed-before) u (at-root y (g .passes 10)) (standing q))
       inr (
         kept-core by w (a q) refl refl refl v,
-        true-finding (w .formed) (w .items) n A A′ r (h .0) (opposite-false _ (h .1 .0)) f,
+        true-finding (w .formed) (w .items) n A A′ r ok (opposite-false _ (the-one (g .passes 6))) f,
         tt,
       )
     accepted (Q.askNone n) g = do
       let q = Q.askNone n
       f ← instead inl
-          (P.ask-none D D32 (G q) (v .tree) (w .items) (at-root nought (g .none-fails .1 .1 .0)) (standing q))
+          (P.ask-none D D32 (G q) (v .tree) (w .items) (at-root nought (g .passes 10)) (standing q))
       inr (kept-core by w (a q) refl refl refl v, f, tt)
     accepted (Q.unlock k) g = inr (kept-core by w (a (Q.unlock k)) refl refl refl v, tt, tt)

@@ -4,23 +4,22 @@ use mathlib.Core.Path.{_≡_, refl, sym, ap, subst, _∙_}
 use mathlib.Core.Bool.{Bool, true, false, true≢false}
 use mathlib.Core.List.{List, [], _∷_, _++_}
 use mathlib.Core.Logic.{inl, inr}
-use Prim.Native.Nat.{ℕ, _+_}
+use Prim.Native.Nat.{ℕ}
 use native.Mathlib.Omega.{arith}
-use lib.Dec.{eqb}
 use lib.ListN.{length}
-use Rattle.seqs.specs.Choose.{opposite}
 use Rattle.paper.specs.declared.Registers.{Registers}
 use Rattle.paper.specs.Strings.{Dig, Str}
 use Rattle.paper.specs.Requests as Q
 use Rattle.paper.specs.Requests.{Request}
-use Rattle.paper.specs.Refusals.{top, needs, carried, Verdict, refused, passed, judge}
+use Rattle.paper.specs.Refusals.{isOpen, belowTop, needs, carried, applies, Verdict, refused, passed, judge}
 use Rattle.paper.specs.Answers.{rooted, raised, answer}
 use Rattle.paper.specs.Module.{Told, told}
 use Rattle.paper.proofs.Early.{late}
+use Rattle.paper.proofs.Verdicts.{opposite-false, the-one}
 use Rattle.runs.specs.Run.{Turn, Reading, ofRuns, World, toldAt, landed, next, after}
 use Rattle.runs.specs.Sizes.{InEightBytes}
 use Rattle.runs.specs.Safety.{Untouched}
-use Rattle.runs.proofs.Accepted.{opposite-false, NoneFails}
+use Rattle.runs.proofs.Accepted.{NoneApplies}
 use Rattle.runs.proofs.Lines.{asked, kindIn, Sorted, refusal, acceptance, sorted}
 use Rattle.runs.proofs.Widths.{Is32, Wide}
 use Rattle.runs.proofs.Formed.{Well, well-append, below-top, closed-forms, well-formed}
@@ -41,38 +40,44 @@ module _ (D : List ℕ → Dig) (D32 : (l : List ℕ) → length (D l) ≡ 32) w
     opened : a .opened ≡ true
     shut : s .opened ≡ false → carries ≡ []
 
-  not-shut : {A : Type 0} (s : Registers) → opposite (s .opened) ≡ false → s .opened ≡ false → A
-  not-shut s o z = absurd (true≢false (sym (opposite-false (s .opened) o) ∙ z))
+  -- 13 and 7, each the only check of its number
+  abbrev Open : Registers → Type 0
+  Open s = applies 13 (isOpen s ∷ []) ≡ false
 
-  stays : {ms : List Dig} (s : Registers) (y : Dig) → opposite (s .opened) ≡ false → Left s (rooted s y) ms
-  stays s y o = record { small = λ c. c; keyed = λ k. k; opened = opposite-false (s .opened) o; shut = not-shut s o }
+  is-open : (s : Registers) → Open s → s .opened ≡ true
+  is-open s o = opposite-false (s .opened) (the-one o)
 
-  raises : {ms : List Dig} (s : Registers) (y : Dig) → opposite (s .opened) ≡ false → eqb (s .counter .0) top ≡ false
-      → Left s (raised s y) ms
+  not-shut : {A : Type 0} (s : Registers) → Open s → s .opened ≡ false → A
+  not-shut s o z = absurd (true≢false (sym (is-open s o) ∙ z))
+
+  stays : {ms : List Dig} (s : Registers) (y : Dig) → Open s → Left s (rooted s y) ms
+  stays s y o = record { small = λ c. c; keyed = λ k. k; opened = is-open s o; shut = not-shut s o }
+
+  raises : {ms : List Dig} (s : Registers) (y : Dig) → Open s → applies 7 (belowTop s ∷ []) ≡ false → Left s (raised s y) ms
   raises s y o e =
       record {
-        small = λ c. below-top (s .counter .0) c e;
+        small = λ c. below-top (s .counter .0) c (the-one e);
         keyed = λ k. k;
-        opened = opposite-false (s .opened) o;
+        opened = is-open s o;
         shut = not-shut s o;
       }
 
-  left : (s : Registers) (q : Request) → NoneFails (needs D s q) → Wide q → Left s (answer D s q .after) (carried D s q)
-  left s (Q.path x x′ sides l) h w = stays s (s .root) (h .0)
-  left s (Q.witness x y m) h w = stays s (s .root) (h .0)
-  left s (Q.join x y x′ y′ m1 z z′ m2) h w = stays s (s .root) (h .0)
-  left s (Q.pair x1 y x1′ y′ m1 x2 z x2′ z′ m2) h w = stays s (s .root) (h .0)
-  left s (Q.raise x1 x2 y x1′ x2′ y′ m1 z z′ m2) h w = stays s (s .root) (h .0)
-  left s (Q.swap x1 x2 y y′ m) h w = stays s (s .root) (h .0)
-  left s (Q.first A) h w = stays s (s .root) (h .0)
-  left s (Q.place A A′ B′ ω y y′ m) h w = stays s (s .root) (h .0)
-  left s (Q.turn x y m) h w = stays s (s .root) (h .0)
-  left s (Q.chain x y m1 z m2) h w = stays s (s .root) (h .0)
-  left s (Q.adopt y y′ m) h w = stays s y′ (h .0)
-  left s (Q.setTo A A′ old v y y′ m) h w = raises s y′ (h .0) (h .1 .1 .1 .1 .0)
-  left s (Q.clear A A′ old y y′ m) h w = raises s y′ (h .0) (h .1 .1 .1 .1 .1 .0)
-  left s (Q.ask q A A′ r y m) h w = stays s (s .root) (h .0)
-  left s (Q.askNone q) h w = stays s (s .root) (h .0)
+  left : (s : Registers) (q : Request) → NoneApplies (needs D s q) → Wide q → Left s (answer D s q .after) (carried D s q)
+  left s (Q.path x x′ sides l) h w = stays s (s .root) (h 13)
+  left s (Q.witness x y m) h w = stays s (s .root) (h 13)
+  left s (Q.join x y x′ y′ m1 z z′ m2) h w = stays s (s .root) (h 13)
+  left s (Q.pair x1 y x1′ y′ m1 x2 z x2′ z′ m2) h w = stays s (s .root) (h 13)
+  left s (Q.raise x1 x2 y x1′ x2′ y′ m1 z z′ m2) h w = stays s (s .root) (h 13)
+  left s (Q.swap x1 x2 y y′ m) h w = stays s (s .root) (h 13)
+  left s (Q.first A) h w = stays s (s .root) (h 13)
+  left s (Q.place A A′ B′ ω y y′ m) h w = stays s (s .root) (h 13)
+  left s (Q.turn x y m) h w = stays s (s .root) (h 13)
+  left s (Q.chain x y m1 z m2) h w = stays s (s .root) (h 13)
+  left s (Q.adopt y y′ m) h w = stays s y′ (h 13)
+  left s (Q.setTo A A′ old v y y′ m) h w = raises s y′ (h 13) (h 7)
+  left s (Q.clear A A′ old y y′ m) h w = raises s y′ (h 13) (h 7)
+  left s (Q.ask q A A′ r y m) h w = stays s (s .root) (h 13)
+  left s (Q.askNone q) h w = stays s (s .root) (h 13)
   left s (Q.unlock k) h w = record { small = λ c. c; keyed = λ k o. w; opened = refl; shut = λ o. refl }
 
   -- ── the side of the invariant that no memorandum bears on ──
@@ -104,7 +109,7 @@ module _ (D : List ℕ → Dig) (D32 : (l : List ℕ) → length (D l) ≡ 32) w
 
   -- an accepted line
   accepted-side : (by : Reading) (k : Dig) (w : World) (kind : ℕ) (q : Request) (fs : List Str)
-      → NoneFails (needs D (w .registers) q) → Wide q
+      → NoneApplies (needs D (w .registers) q) → Wide q
       → Well (told D (w .registers) kind q (passed fs) .formed) → Side k w → Side k
       (landed D by w (told D (w .registers) kind q (passed fs)))
   accepted-side by k w kind q fs n h f v =
