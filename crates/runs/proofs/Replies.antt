@@ -22,7 +22,7 @@ use Rattle.runs.specs.Safety.{questionIn, TrueFinding, TrueAnswer}
 use Rattle.runs.proofs.Lines.{asked, kindIn, Sorted, refusal, acceptance, sorted}
 use Rattle.runs.specs.Sizes.{InEightBytes, RecordFits}
 use Rattle.runs.proofs.Widths.{Wide}
-use Rattle.runs.proofs.Safe.{TrueFor}
+use Rattle.runs.proofs.Safe.{TrueFor, finding-true, none-true}
 
 -- ── the request of a frame, by its kind ──
 
@@ -77,7 +77,7 @@ module _ (D : List ℕ → Dig) where
       sym (ap (λ (b : List ℕ). findingIn (drop 1 b)) e ∙ finding-back f h) in
       (e ∙ ap (λ (g : Finding). 0x8e ∷ findingBytes g) z, subst (λ (g : Finding). TrueFinding D q g l) z tr)
 
-  pub true-answer : (w : World) (t : Turn) → toldAt D w t .refusal ≡ 0 → TrueFor D (asked t) (w .items)
+  pub true-answer : (w : World) (t : Turn) → toldAt D w t .refusal ≡ 0 → TrueFor D (w .items) (asked t)
       → TrueAnswer D (bytesOf (t .line)) (toldAt D w t .says) (w .items)
   true-answer w t z tr = by-sort (sorted D (w .registers) (t .line) (t .space))
     where
@@ -99,8 +99,8 @@ module _ (D : List ℕ → Dig) where
                 let g : Wide (Q.ask (questionIn f) (a .A) (a .A′) (a .r) (a .y) (a .m)) = subst Wide (a .is) h in
                 shows (toldAt D w t .says) (questionIn f) (findingOf (questionIn f) (a .A) (a .A′) (a .r)) (w .items)
                 (sound-finding (questionIn f) (a .A) (a .A′) (a .r) (g .1) (g .2) (g .3)) (says-of _ (a .is) 0x0e k s)
-                (subst (λ (q : Request). TrueFor D q (w .items)) (a .is) tr);
+                (finding-true D (subst (TrueFor D (w .items)) (a .is) tr));
             ask-of-none = λ k.
                 let a = ask-none-in f k in
-                (says-of _ a 0x0f k s, subst (λ (q : Request). TrueFor D q (w .items)) a tr);
+                (says-of _ a 0x0f k s, none-true D (subst (TrueFor D (w .items)) a tr));
           }

@@ -34,7 +34,7 @@ module _ (D : List ℕ → Dig) (D32 : (l : List ℕ) → length (D l) ≡ 32) w
   abbrev pub Out : Reading → World → Request → Told → Type 0
   Out by w q a =
       (Fault (digest D) (a .formed ++ w .formed) ⊎ ((a .refusal ≡ 0) × Forgery D w q))
-      ⊎ (Core D D32 (landed D by w a) × (a .refusal ≡ 0 → TrueFor D q (w .items)) × LegalEffect D w (a .effect))
+      ⊎ (Core D D32 (landed D by w a) × (a .refusal ≡ 0 → TrueFor D (w .items) q) × LegalEffect D w (a .effect))
 
   -- ── any line ──
 

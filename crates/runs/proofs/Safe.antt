@@ -52,24 +52,22 @@ blank-empty r e ok = by-known (known-by (λ s. []) [] r ok no-forms)
     by-known (known-recorded n m) = absurd (n (eqb-true (r .revision .0) 0 e))
 
 module _ (D : List ℕ → Dig) where
-  -- the answer to a request is true of the list
-  abbrev pub TrueFor : Request → Items → Type 0
-  TrueFor (Q.path x x′ sides s) l = Unit {0}
-  TrueFor (Q.witness x y m) l = Unit {0}
-  TrueFor (Q.join x y x′ y′ m1 z z′ m2) l = Unit {0}
-  TrueFor (Q.pair x1 y x1′ y′ m1 x2 z x2′ z′ m2) l = Unit {0}
-  TrueFor (Q.raise x1 x2 y x1′ x2′ y′ m1 z z′ m2) l = Unit {0}
-  TrueFor (Q.swap x1 x2 y y′ m) l = Unit {0}
-  TrueFor (Q.first A) l = Unit {0}
-  TrueFor (Q.place A A′ B′ ω y y′ m) l = Unit {0}
-  TrueFor (Q.turn x y m) l = Unit {0}
-  TrueFor (Q.chain x y m1 z m2) l = Unit {0}
-  TrueFor (Q.adopt y y′ m) l = Unit {0}
-  TrueFor (Q.setTo A A′ old v y y′ m) l = Unit {0}
-  TrueFor (Q.clear A A′ old y y′ m) l = Unit {0}
-  TrueFor (Q.ask q A A′ r y m) l = TrueFinding D q (findingOf q A A′ r) l
-  TrueFor (Q.askNone q) l = l ≡ []
-  TrueFor (Q.unlock k) l = Unit {0}
+  -- The answer to a request is true of the list: an ask's by its finding, an ask of none's by there being none. A line that does
+  -- something, and an opening, tell nothing of it.
+  pub data TrueFor (l : Items) : Request → Type 0 where
+    of-ask : {n A A′ : ℕ} {r : Record} {y m : Dig} → TrueFinding D n (findingOf n A A′ r) l → TrueFor l (Q.ask n A A′ r y m)
+    of-ask-none : {n : ℕ} → l ≡ [] → TrueFor l (Q.askNone n)
+    of-open : {k : Dig} → TrueFor l (Q.unlock k)
+    of-doing : {q : Request} (s : Registers) → (answer D s q .effect ≡ none′ → ⊥) → TrueFor l q
+
+  pub finding-true : {l : Items} {n A A′ : ℕ} {r : Record} {y m : Dig} → TrueFor l (Q.ask n A A′ r y m)
+      → TrueFinding D n (findingOf n A A′ r) l
+  finding-true (of-ask f) = f
+  finding-true (of-doing s d) = absurd (d refl)
+
+  pub none-true : {l : Items} {n : ℕ} → TrueFor l (Q.askNone n) → l ≡ []
+  none-true (of-ask-none e) = e
+  none-true (of-doing s d) = absurd (d refl)
 
 module _ (D : List ℕ → Dig) (D32 : (l : List ℕ) → length (D l) ≡ 32) where
   -- the root stands for the list, and the book is backed
@@ -135,7 +133,7 @@ module _ (D : List ℕ → Dig) (D32 : (l : List ℕ) → length (D l) ≡ 32) w
 
     -- what it comes to
     abbrev Comes : Request → Type 0
-    Comes q = Or D w (G q) q (Core (landed D by w (a q)) × TrueFor D q (w .items) × LegalEffect D w (a q .effect))
+    Comes q = Or D w (G q) q (Core (landed D by w (a q)) × TrueFor D (w .items) q × LegalEffect D w (a q .effect))
 
     backed : (q : Request) → AllBacked D (G q) (w .book)
     backed q = book-more D (w .book) (more (a q) w) (v .book)
@@ -160,9 +158,9 @@ module _ (D : List ℕ → Dig) (D32 : (l : List ℕ) → length (D l) ≡ 32) w
 
     -- a line that issues a memorandum whose meaning is known; it is the first string that its answer forms
     issued : {q : Request} (g : GivenTo q) {t : Memo} {c : Change} {l : List Str} → answer D s q .after ≡ s
-        → answer D s q .effect ≡ issues t c → answer D s q .forms ≡ memo t key ∷ l → TrueFor D q (w .items)
+        → answer D s q .effect ≡ issues t c → answer D s q .forms ≡ memo t key ∷ l
         → Means dig (G q) t (meaning (w .book) c) → Comes q
-    issued {q} g {t} e₁ e₂ e₃ tr m =
+    issued {q} g {t} e₁ e₂ e₃ m =
         inr (
           record {
             tree = v .tree;
@@ -174,7 +172,7 @@ module _ (D : List ℕ → Dig) (D32 : (l : List ℕ) → length (D l) ≡ 32) w
                 (record { says = t; key = key; formed = g .of-answer _ (rw e₃ (List·Memᴰ·head refl)); memorandum-is = refl; means = m }));
             counter = rw e₂ (ap (λ (r : Registers). r .counter .0) e₁ ∙ v .counter);
           },
-          tr,
+          of-doing {q = q} s (λ z. true≢false (let e = sym e₂ ∙ z in cc)),
           rw e₂ tt,
         )
 
@@ -183,9 +181,9 @@ module _ (D : List ℕ → Dig) (D32 : (l : List ℕ) → length (D l) ≡ 32) w
         → those 8 (needs D s q) ≡ first-memo D s (changeForms D A A′ old new) (changeSays D A A′ old new y y′ ∷ []) m ∷ []
         → malformed old ≡ false → malformed new ≡ false → hashOf D (v .tree) ≡ y
         → answer D s q .after .root ≡ y′ → answer D s q .after .counter .0 ≡ s .counter .0 + 1
-        → answer D s q .effect ≡ changes A new → TrueFor D q (w .items) → (blank new ≡ true → blank old ≡ false)
+        → answer D s q .effect ≡ changes A new → (blank new ≡ true → blank old ≡ false)
         → (new .revision .0 ≡ s .counter .0 + 1) ⊎ (new ≡ clearedRecord) → Comes q
-    changed {q} g A A′ old new y y′ m e ok ok′ r e₁ e₂ e₃ tr full next = do
+    changed {q} g A A′ old new y y′ m e ok ok′ r e₁ e₂ e₃ full next = do
       let a = asked-at D w (G q) g 8 (changeForms D A A′ old new) (changeSays D A A′ old new y y′ ∷ []) m e
       u ← means-after a
       p ← instead inl (P.put D D32 (G q) A A′ old new (v .tree) (w .items) ok ok′ (a .formed-before) u r (standing q))
@@ -197,7 +195,7 @@ module _ (D : List ℕ → Dig) (D32 : (l : List ℕ) → length (D l) ≡ 32) w
           book = rw (e₃, entered-none by (w .book)) (backed q);
           counter = rw e₃ (e₂ ∙ ap (λ (n : ℕ). n + 1) (v .counter));
         },
-        tr,
+        of-doing {q = q} s (λ z. true≢false (let e = sym e₃ ∙ z in cc)),
         rw e₃ (old, p .was, full, next),
       )
 
@@ -217,32 +215,32 @@ module _ (D : List ℕ → Dig) (D32 : (l : List ℕ) → length (D l) ≡ 32) w
     accepted (Q.path x x′ sides l) g =
         let q = Q.path x x′ sides l in
         let i : Within (foldForms D x′ sides l ++ foldForms D x sides l) (G q) = λ t m. g .of-answer t (List·Memᴰ·tail m) in
-        issued g refl refl refl tt
+        issued g refl refl refl
         (path D D32 (G q) x x′ sides l (g .wide .0) (g .wide .1) (g .wide .2)
         (λ t m. i t (Memᴰ·append-right (foldForms D x′ sides l) m)) (λ t m. i t (Memᴰ·append-left _ m)))
     accepted (Q.witness x y m) g = do
       u ← means g 8 (u1 x y x y) m refl
-      issued g refl refl refl tt (T.witness dig u)
+      issued g refl refl refl (T.witness dig u)
     accepted (Q.join x y x′ y′ m1 z z′ m2) g = do
       u ← means g 8 (u1 x y x′ y′) m1 refl
       v ← means g 9 (u1 y z y′ z′) m2 refl
-      issued g refl refl refl tt (T.join dig u v)
+      issued g refl refl refl (T.join dig u v)
     accepted (Q.pair x1 y x1′ y′ m1 x2 z x2′ z′ m2) g = do
       let q = Q.pair x1 y x1′ y′ m1 x2 z x2′ z′ m2
       let i : Within (parentForms y′ z′ ++ parentForms y z) (G q) = λ t m. g .of-answer t (List·Memᴰ·tail m)
       u ← means g 8 (u1 x1 y x1′ y′) m1 refl
       v ← means g 9 (u1 x2 z x2′ z′) m2 refl
-      issued g refl refl refl tt (P.pair D D32 (G q) (g .wide .1) (g .wide .5) (g .wide .3) (g .wide .7)
+      issued g refl refl refl (P.pair D D32 (G q) (g .wide .1) (g .wide .5) (g .wide .3) (g .wide .7)
           (λ t m. i t (Memᴰ·append-right (parentForms y′ z′) m)) (λ t m. i t (Memᴰ·append-left _ m)) u v)
     accepted (Q.raise x1 x2 y x1′ x2′ y′ m1 z z′ m2) g = do
       u ← means g 8 (u2 x1 x2 y x1′ x2′ y′) m1 refl
       v ← means g 9 (u1 y z y′ z′) m2 refl
-      issued g refl refl refl tt (T.raise dig u v)
+      issued g refl refl refl (T.raise dig u v)
     accepted (Q.swap x1 x2 y y′ m) g = do
       u ← means g 8 (u2 x1 x2 y x2 x1 y′) m refl
-      issued g refl refl refl tt (R.swap dig u)
+      issued g refl refl refl (R.swap dig u)
     accepted (Q.first A) g =
-        issued g refl refl refl tt
+        issued g refl refl refl
         (R.first dig A (omega (arith, eqb-false A 0 (the-one (g .passes 4)))) (g .of-answer _ (List·Memᴰ·tail (List·Memᴰ·head refl))))
     accepted (Q.place A A′ B′ ω y y′ m) g = do
       let q = Q.place A A′ B′ ω y y′ m
@@ -251,14 +249,14 @@ module _ (D : List ℕ → Dig) (D32 : (l : List ℕ) → length (D l) ≡ 32) w
       let x2 = dig (leaf A′ B′ nought)
       let c = asked-at D w (G q) g 8 (placeForms A A′ B′ ω) (placeSays D A A′ B′ ω y y′) m refl
       u ← C.means-either D w (G q) (backed q) (u2 x1 x2 y x1′ nought y′) (u2 x2 x1 y nought x1′ y′) m c
-      issued g refl refl refl tt (P.place D D32 (G q) A A′ B′ ω (opposite-false _ (the-one (g .passes 6))) (c .formed-before) u)
+      issued g refl refl refl (P.place D D32 (G q) A A′ B′ ω (opposite-false _ (the-one (g .passes 6))) (c .formed-before) u)
     accepted (Q.turn x y m) g = do
       u ← means g 8 (ei x y) m refl
-      issued g refl refl refl tt (R.turn dig u)
+      issued g refl refl refl (R.turn dig u)
     accepted (Q.chain x y m1 z m2) g = do
       u ← means g 8 (ei x y) m1 refl
       v ← means g 9 (ei y z) m2 refl
-      issued g refl refl refl tt (R.chain dig u v)
+      issued g refl refl refl (R.chain dig u v)
     accepted (Q.adopt y y′ m) g = do
       let q = Q.adopt y y′ m
       u ← means g 8 (ei y y′) m refl
@@ -271,14 +269,14 @@ module _ (D : List ℕ → Dig) (D32 : (l : List ℕ) → length (D l) ≡ 32) w
           book = rw (entered-none by (w .book)) (backed q);
           counter = v .counter;
         },
-        tt,
+        of-doing {q = q} s (λ z. true≢false cc),
         p .legal,
       )
     accepted (Q.setTo A A′ old v y y′ m) g =
-        changed g A A′ old (nextRecord s v) y y′ m refl (the-one (g .passes 5)) (set-sound v) (at-root y (g .passes 10)) refl refl refl tt
+        changed g A A′ old (nextRecord s v) y y′ m refl (the-one (g .passes 5)) (set-sound v) (at-root y (g .passes 10)) refl refl refl
         (λ e. absurd (true≢false (sym e ∙ set-recorded v))) (inl refl)
     accepted (Q.clear A A′ old y y′ m) g =
-        changed g A A′ old clearedRecord y y′ m refl (the-one (g .passes 5)) cleared-sound (at-root y (g .passes 10)) refl refl refl tt
+        changed g A A′ old clearedRecord y y′ m refl (the-one (g .passes 5)) cleared-sound (at-root y (g .passes 10)) refl refl refl
         (λ e. the-one (g .passes 11)) (inr refl)
     accepted (Q.ask n A A′ r y m) g = do
       let q = Q.ask n A A′ r y m
@@ -288,12 +286,12 @@ module _ (D : List ℕ → Dig) (D32 : (l : List ℕ) → length (D l) ≡ 32) w
       f ← instead inl (P.ask D D32 (G q) A A′ r (v .tree) (w .items) ok (c .formed-before) u (at-root y (g .passes 10)) (standing q))
       inr (
         kept-core by w (a q) refl refl refl v,
-        true-finding (w .formed) (w .items) n A A′ r ok (opposite-false _ (the-one (g .passes 6))) f,
+        of-ask (true-finding (w .formed) (w .items) n A A′ r ok (opposite-false _ (the-one (g .passes 6))) f),
         tt,
       )
     accepted (Q.askNone n) g = do
       let q = Q.askNone n
       f ← instead inl
           (P.ask-none D D32 (G q) (v .tree) (w .items) (at-root nought (g .passes 10)) (standing q))
-      inr (kept-core by w (a q) refl refl refl v, f, tt)
-    accepted (Q.unlock k) g = inr (kept-core by w (a (Q.unlock k)) refl refl refl v, tt, tt)
+      inr (kept-core by w (a q) refl refl refl v, of-ask-none f, tt)
+    accepted (Q.unlock k) g = inr (kept-core by w (a (Q.unlock k)) refl refl refl v, of-open, tt)
