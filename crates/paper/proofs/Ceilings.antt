@@ -11,7 +11,7 @@ use Rattle.seqs.specs.Bytes.{same, allZero}
 use Rattle.hex.specs.Hex.{bytesOf}
 use Rattle.paper.specs.declared.Record.{Record}
 use Rattle.paper.specs.declared.Registers.{Registers}
-use Rattle.paper.specs.Strings.{Dig, nought, Memo, u1, v1, u2, ei, Str, leaf, node, entry, memo, cost, blank, recordForms, parentForms, digest, up, upForms, foldForms}
+use Rattle.paper.specs.Strings.{Dig, nought, Memo, u1, v1, u2, ei, Str, leaf, node, entry, cost, blank, recordForms, parentForms, digest, memorandum, memorandumForms, up, upForms, foldForms}
 use Rattle.paper.specs.Requests as Q
 use Rattle.paper.specs.Requests.{Request, kindOf, requestOf}
 use Rattle.paper.specs.Refusals.{Check, order, roomFor, replyRoom, isHex, isKind, isFrame, nextRecord, clearedRecord, tried, first-memo, leafOf, leafForms, changeForms, changeSays, needs, those, formsAll, applies, formedAt, Verdict, refused, passed, formedBy, judge}
@@ -87,12 +87,12 @@ module _ (D : List ℕ → Dig) where
       omega (arith, cost-append here rest, up-cost u v (eqb (sides % 2) 1), fold-cost (up D u v (sides % 2)) (sides / 2) l)
 
   -- after a memorandum that may say one thing, nothing else is tried
-  one : (k : Dig) (t : Memo) (m : Dig) → cost (pick (same (digest D (memo t k)) m) [] []) ≡ 0
-  one k t m = none-or-none (same (digest D (memo t k)) m)
+  one : (k : Dig) (t : Memo) (m : Dig) → cost (pick (same (memorandum D t k) m) [] []) ≡ 0
+  one k t m = none-or-none (same (memorandum D t k) m)
 
   two : (k : Dig) (t t′ : Memo) (m : Dig)
-      → cost (pick (same (digest D (memo t k)) m) [] (tried D k (t′ ∷ []) m)) ≤ cost (memo t′ k ∷ [])
-  two k t t′ m = omega (arith, none-or (same (digest D (memo t k)) m) (tried D k (t′ ∷ []) m), one k t′ m)
+      → cost (pick (same (memorandum D t k) m) [] (tried D k (t′ ∷ []) m)) ≤ cost (memorandumForms D t′ k)
+  two k t t′ m = omega (arith, none-or (same (memorandum D t k) m) (tried D k (t′ ∷ []) m), one k t′ m)
 
   leaf-cost : (A A′ : ℕ) (r : Record) → cost (leafForms D A A′ r) ≡ cost (recordForms r) + 1
   leaf-cost A A′ r = cost-append (recordForms r) (leafOf D A A′ r ∷ [])

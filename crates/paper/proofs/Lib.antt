@@ -4,6 +4,7 @@ pub mod Early
 pub mod Encoding
 pub mod Findings
 pub mod Frames
+pub mod Carrying
 pub mod Memoranda
 pub mod Older
 pub mod Room

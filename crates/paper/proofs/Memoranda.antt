@@ -1,22 +1,65 @@
--- What a request's checks compare is what the table has it carry: each kind computes.
-use mathlib.Core.Path.{refl}
-use Rattle.paper.specs.Requests.{path, witness, join, pair, raise, swap, first, place, turn, chain, adopt, setTo, clear, ask, askNone, unlock}
-use Rattle.paper.specs.Memoranda.{CarriesJustThese}
+-- A memorandum by how it is made. What is proved of memoranda goes through these laws; else only `same-memorandum` (rings, Memos),
+-- `well-memo` (runs, Formed) and the entries of a book (runs, Book) look into how one is made.
+use mathlib.Core.Path.{_≡_, refl, sym, ap, _∙_}
+use mathlib.Core.List.{List, [], _∷_, _++_, List·Memᴰ, List·Memᴰ·head, List-discrete}
+use Prim.Native.Nat.{ℕ}
+use native.Mathlib.Decide.{ℕ-discrete}
+use lib.ListN.{length, take, drop}
+use lib.Seq.{take-at, drop-at}
+use Rattle.paper.specs.Strings.{Dig, Memo, u1, Str, memo, enc, digest, memorandum, memorandumForms}
+use Rattle.paper.specs.Collisions.{Collision}
 
-pub carries-just-these : CarriesJustThese
-carries-just-these D s (path x x′ sides l) = refl
-carries-just-these D s (witness x y m) = refl
-carries-just-these D s (join x y x′ y′ m1 z z′ m2) = refl
-carries-just-these D s (pair x1 y x1′ y′ m1 x2 z x2′ z′ m2) = refl
-carries-just-these D s (raise x1 x2 y x1′ x2′ y′ m1 z z′ m2) = refl
-carries-just-these D s (swap x1 x2 y y′ m) = refl
-carries-just-these D s (first A) = refl
-carries-just-these D s (place A A′ B′ ω y y′ m) = refl
-carries-just-these D s (turn x y m) = refl
-carries-just-these D s (chain x y m1 z m2) = refl
-carries-just-these D s (adopt y y′ m) = refl
-carries-just-these D s (setTo A A′ old v y y′ m) = refl
-carries-just-these D s (clear A A′ old y y′ m) = refl
-carries-just-these D s (ask q A A′ r y m) = refl
-carries-just-these D s (askNone q) = refl
-carries-just-these D s (unlock k) = refl
+-- ── what the strings of two changes tell ──
+
+abbrev pub tail : List ℕ → List ℕ
+tail [] = []
+tail (a ∷ l) = l
+
+-- the third of three digests
+third : (x y z r : List ℕ) → length x ≡ 32 → length y ≡ 32 → length z ≡ 32
+    → take 32 (drop 32 (drop 32 (x ++ (y ++ (z ++ r))))) ≡ z
+third x y z r n m o =
+    rw (drop-at x (y ++ (z ++ r)) 32 n, drop-at y (z ++ r) 32 m) (take-at z r 32 o)
+
+memo-tells : (x y x′ y′ a b a′ b′ k l : Dig) → length x ≡ 32 → length y ≡ 32 → length x′ ≡ 32 → length a ≡ 32 → length b ≡ 32
+    → length a′ ≡ 32 → enc (memo (u1 x y x′ y′) k) ≡ enc (memo (u1 a b a′ b′) l) → x′ ≡ a′
+unfolding enc
+memo-tells x y x′ y′ a b a′ b′ k l n m o n′ m′ o′ e =
+    sym (third x y x′ (y′ ++ (k ++ [])) n m o)
+    ∙ ap (λ (s : List ℕ). take 32 (drop 32 (drop 32 (tail s)))) e
+    ∙ third a b a′ (b′ ++ (l ++ [])) n′ m′ o′
+
+module _ (D : List ℕ → Dig) where
+  -- two strings with one digest collide, or what they say is the same and leads on
+  pub or-same : (fs : List Str) (a b : Str) → List·Memᴰ a fs → List·Memᴰ b fs → digest D a ≡ digest D b
+      → (enc a ≡ enc b → Collision D fs) → Collision D fs
+  or-same fs a b i j e next = by-bytes (List-discrete ℕ-discrete (enc a) (enc b))
+    where
+      by-bytes : Dec (enc a ≡ enc b) → Collision D fs
+      by-bytes (yes h) = next h
+      by-bytes (no h) = record { one = a; other = b; one-formed = i; other-formed = j; differ = h; agree = e }
+
+  -- ── a memorandum ──
+
+  -- the strings of one are among fs
+  abbrev pub MadeOf : List Str → Memo → Dig → Type 0
+  MadeOf fs t k = (x : Str) → List·Memᴰ x (memorandumForms D t k) → List·Memᴰ x fs
+
+  -- it is the digest of one of them
+  pub is-digest : (t : Memo) (k : Dig) → (x : Str) × List·Memᴰ x (memorandumForms D t k) × (digest D x ≡ memorandum D t k)
+  is-digest t k = (memo t k, List·Memᴰ·head refl, refl)
+
+  -- so what holds of every digest holds of it
+  pub of-digests : (P : Dig → Type 0) → ((l : List ℕ) → P (D l)) → (t : Memo) (k : Dig) → P (memorandum D t k)
+  of-digests P h t k = h (enc (memo t k))
+
+  pub memorandum-32 : ((l : List ℕ) → length (D l) ≡ 32) → (t : Memo) (k : Dig) → length (memorandum D t k) ≡ 32
+  memorandum-32 D32 t k = of-digests (λ d. length d ≡ 32) D32 t k
+
+  -- two changes with one memorandum have one new half, which leads on, or their strings collide
+  pub one-new-half : (fs : List Str) (x y x′ y′ a b a′ b′ k l : Dig) → length x ≡ 32 → length y ≡ 32 → length x′ ≡ 32 → length a ≡ 32
+      → length b ≡ 32 → length a′ ≡ 32 → MadeOf fs (u1 x y x′ y′) k → MadeOf fs (u1 a b a′ b′) l
+      → memorandum D (u1 x y x′ y′) k ≡ memorandum D (u1 a b a′ b′) l → (x′ ≡ a′ → Collision D fs) → Collision D fs
+  one-new-half fs x y x′ y′ a b a′ b′ k l n m o n′ m′ o′ i j e next =
+      or-same fs (memo (u1 x y x′ y′) k) (memo (u1 a b a′ b′) l) (i _ (List·Memᴰ·head refl)) (j _ (List·Memᴰ·head refl)) e
+      (λ h. next (memo-tells x y x′ y′ a b a′ b′ k l n m o n′ m′ o′ h))

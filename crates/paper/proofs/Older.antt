@@ -2,11 +2,10 @@
 -- the memoranda, the leaves in them, or the records in those. The two lines may differ in all else.
 use mathlib.Core.Path.{_≡_, refl, sym, ap, subst, _∙_}
 use mathlib.Core.Bool.{Bool, true, false, true≢false}
-use mathlib.Core.List.{List, [], _∷_, _++_, List·Memᴰ, List·Memᴰ·head, Memᴰ·append-left, Memᴰ·append-right, List-discrete}
+use mathlib.Core.List.{List, [], _∷_, _++_, List·Memᴰ, List·Memᴰ·head, Memᴰ·append-left, Memᴰ·append-right}
 use mathlib.Core.Logic.{_⊎_, inl, inr}
 use Prim.Native.Nat.{ℕ, _+_, _<_, _^_}
 use native.Mathlib.Omega.{arith}
-use native.Mathlib.Decide.{ℕ-discrete}
 use borrow.Author.Tests.{eqb-true, eqb-false, ne-eqb}
 use lib.Dec.{eqb}
 use lib.ListN.{length, take, drop, length-drop}
@@ -17,11 +16,12 @@ use Rattle.hex.specs.Hex.{bytesOf}
 use Rattle.paper.specs.declared.Record.{Record}
 use Rattle.paper.specs.declared.Values.{Values}
 use Rattle.paper.specs.declared.Registers.{Registers}
-use Rattle.paper.specs.Strings.{Dig, nought, u1, Str, leaf, entry, memo, enc, digest, blank, recordForms, recordHash}
+use Rattle.paper.specs.Strings.{Dig, nought, Memo, Str, leaf, entry, enc, digest, memorandum, blank, recordForms, recordHash}
 use Rattle.paper.specs.Requests.{Request, setTo, recordIn, valuesIn, Kind, kinds, kindOf, rowOf, takesAll, part, soundAll, fits, requestOf}
 use Rattle.paper.specs.Refusals.{Check, order, roomFor, replyRoom, isHex, top, nextRecord, numbersBefore, carried, leafOf, leafForms, changeForms, changeSays, needs, applies, formedAt, judge, Passed}
 use Rattle.paper.specs.Module.{frameChecks, Told, told, answerTo}
 use Rattle.paper.specs.Collisions.{Collision}
+use Rattle.paper.proofs.Memoranda.{tail, or-same, MadeOf, one-new-half}
 use Rattle.paper.proofs.Verdicts.{opposite-false, the-one, firstOf, number-is, in-told, split-passed, passed-at, reached, passed-number}
 use Rattle.paper.specs.Older.{Fits, Later, OlderGets8}
 
@@ -51,29 +51,12 @@ all-passed (n ∷ ns) rest cs h f =
 
 -- ── bytes that agree ──
 
-abbrev tail : List ℕ → List ℕ
-tail [] = []
-tail (a ∷ l) = l
-
--- the third of three digests; the bytes behind two numbers
-third : (x y z r : List ℕ) → length x ≡ 32 → length y ≡ 32 → length z ≡ 32
-    → take 32 (drop 32 (drop 32 (x ++ (y ++ (z ++ r))))) ≡ z
-third x y z r n m o =
-    rw (drop-at x (y ++ (z ++ r)) 32 n, drop-at y (z ++ r) 32 m) (take-at z r 32 o)
-
+-- the bytes behind two numbers
 behind-two : (A A′ : ℕ) (h : List ℕ) → take 32 (drop 8 (drop 8 (be64 A ++ (be64 A′ ++ (h ++ []))))) ≡ take 32 (h ++ [])
 behind-two A A′ h =
     rw (drop-at (be64 A) (be64 A′ ++ (h ++ [])) 8 (be64-length A), drop-at (be64 A′) (h ++ []) 8 (be64-length A′)) refl
 
--- what the strings of two changes, of two leaves and of two records tell
-pub memo-tells : (x y x′ y′ a b a′ b′ k l : Dig) → length x ≡ 32 → length y ≡ 32 → length x′ ≡ 32 → length a ≡ 32 → length b ≡ 32
-    → length a′ ≡ 32 → enc (memo (u1 x y x′ y′) k) ≡ enc (memo (u1 a b a′ b′) l) → x′ ≡ a′
-unfolding enc
-memo-tells x y x′ y′ a b a′ b′ k l n m o n′ m′ o′ e =
-    sym (third x y x′ (y′ ++ (k ++ [])) n m o)
-    ∙ ap (λ (s : List ℕ). take 32 (drop 32 (drop 32 (tail s)))) e
-    ∙ third a b a′ (b′ ++ (l ++ [])) n′ m′ o′
-
+-- what the strings of two leaves and of two records tell
 leaf-tells : (A A′ B B′ : ℕ) (h h′ : Dig) → length h ≡ 32 → length h′ ≡ 32 → enc (leaf A A′ h) ≡ enc (leaf B B′ h′) → h ≡ h′
 unfolding enc
 leaf-tells A A′ B B′ h h′ n n′ e =
@@ -89,16 +72,6 @@ entry-tells : (r r′ : Record) → r .revision .0 < 2 ^ 64 → r′ .revision .
     → r .revision .0 ≡ r′ .revision .0
 entry-tells r r′ n n′ e =
     sym (revision-in r n) ∙ ap (λ (l : List ℕ). numberOf (take 8 (tail l))) e ∙ revision-in r′ n′
-
-module _ (D : List ℕ → Dig) (fs : List Str) where
-  -- two strings with one digest collide, or what they say is the same and leads on
-  or-same : (a b : Str) → List·Memᴰ a fs → List·Memᴰ b fs → digest D a ≡ digest D b → (enc a ≡ enc b → Collision D fs)
-      → Collision D fs
-  or-same a b i j e next = by-bytes (List-discrete ℕ-discrete (enc a) (enc b))
-    where
-      by-bytes : Dec (enc a ≡ enc b) → Collision D fs
-      by-bytes (yes h) = next h
-      by-bytes (no h) = record { one = a; other = b; one-formed = i; other-formed = j; differ = h; agree = e }
 
 -- ── a set's line at some registers ──
 
@@ -180,8 +153,8 @@ module _ (D : List ℕ → Dig) (D32 : (l : List ℕ) → length (D l) ≡ 32) w
     abbrev newLeaf : Str
     newLeaf = leafOf D (l .A) (l .A′) new
 
-    abbrev says : Str
-    says = memo (changeSays D (l .A) (l .A′) (l .old) new (l .y) (l .y′)) (r .secret)
+    abbrev says : Memo
+    says = changeSays D (l .A) (l .A′) (l .old) new (l .y) (l .y′)
 
     abbrev checks : List Check
     checks = roomFor replyRoom n ∷ isHex line ∷ (frameChecks (bytesOf line) ++ needs D r q)
@@ -197,9 +170,9 @@ module _ (D : List ℕ → Dig) (D32 : (l : List ℕ) → length (D l) ≡ 32) w
     formed x h i =
         rw judged (in-told D r kind q x (judge order [] checks) (reached x before 8 (9 ∷ 10 ∷ []) [] checks h i))
 
-    -- the three strings that tell the new revision
-    memo-formed : List·Memᴰ says (formedAt 8 checks)
-    memo-formed = Memᴰ·append-right (changeForms D (l .A) (l .A′) (l .old) new) (List·Memᴰ·head refl)
+    -- the strings that tell the new revision
+    memo-formed : MadeOf D (formedAt 8 checks) says (r .secret)
+    memo-formed x i = Memᴰ·append-right (changeForms D (l .A) (l .A′) (l .old) new) (Memᴰ·append-left _ i)
 
     leaf-formed : List·Memᴰ newLeaf (formedAt 8 checks)
     leaf-formed =
@@ -216,9 +189,9 @@ module _ (D : List ℕ → Dig) (D32 : (l : List ℕ) → length (D l) ≡ 32) w
         (Memᴰ·append-right (leafForms D (l .A) (l .A′) (l .old)) (Memᴰ·append-left {s = recordForms new} _
         (rw not-blank (List·Memᴰ·head refl))))
 
-    -- a memorandum that fits is the digest of what it may say
-    fitted : applies 8 checks ≡ false → digest D says ≡ l .m
-    fitted h = same-true _ (l .m) (fits-by (same (digest D says) (l .m)) h)
+    -- a memorandum that fits is made of what it may say
+    fitted : applies 8 checks ≡ false → memorandum D says (r .secret) ≡ l .m
+    fitted h = same-true _ (l .m) (fits-by (same (memorandum D says (r .secret)) (l .m)) h)
 
     hash-long : length (recordHash D new) ≡ 32
     unfolding recordHash
@@ -285,11 +258,10 @@ module _ (D : List ℕ → Dig) (D32 : (l : List ℕ) → length (D l) ≡ 32) w
 
     memos : applies 8 now ≡ false → Collision D fs
     memos h =
-        or-same D fs (says l₀ s₀ space₀) (says l s space) (formed-then _ (memo-formed l₀ s₀ space₀))
-        (formed-now _ (memo-formed l s space))
-        (fitted l₀ s₀ space₀ (then-passed .1 .0) ∙ one-memorandum ∙ sym (fitted l s space h))
-        (λ b. leaves (memo-tells _ (l₀ .y) _ (l₀ .y′) _ (l .y) _ (l .y′) (s₀ .secret) (s .secret)
-        (D32 _) (y-long l₀ s₀ space₀ (then-passed .0)) (D32 _) (D32 _) (y-long l s space now-passed) (D32 _) b))
+        one-new-half D fs _ (l₀ .y) _ (l₀ .y′) _ (l .y) _ (l .y′) (s₀ .secret) (s .secret)
+        (D32 _) (y-long l₀ s₀ space₀ (then-passed .0)) (D32 _) (D32 _) (y-long l s space now-passed) (D32 _)
+        (λ x i. formed-then x (memo-formed l₀ s₀ space₀ x i)) (λ x i. formed-now x (memo-formed l s space x i))
+        (fitted l₀ s₀ space₀ (then-passed .1 .0) ∙ one-memorandum ∙ sym (fitted l s space h)) leaves
 
     gets-8 : (b : Bool) → applies 8 now ≡ b → (answerTo D s line space .refusal ≡ 8) ⊎ Collision D fs
     gets-8 true h =

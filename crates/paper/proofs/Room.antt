@@ -16,13 +16,14 @@ use Rattle.hex.proofs.Laws.{line-length}
 use Rattle.paper.specs.declared.Record.{Record}
 use Rattle.paper.specs.declared.Registers.{Registers}
 use Rattle.paper.specs.declared.Finding.the-variants.{Recorded, Listed, Gap}
-use Rattle.paper.specs.Strings.{Dig, enc, node, memo, u1, blank, H, up, foldUp}
+use Rattle.paper.specs.Strings.{Dig, Memo, enc, node, u1, blank, memorandum, H, up, foldUp}
 use Rattle.paper.specs.Requests as Q
 use Rattle.paper.specs.Requests.{Carried, aNumber, aDigest, aRecord, theValues, aPath, countIn, sidesIn, digestsIn, siblingsIn, Kind, kinds, kindOf, rowOf, takes, part, requestOf}
 use Rattle.paper.specs.Refusals.{Check, order, replyRoom, applies, Verdict, refused, passed, judge, Passed, FirstToApply}
 use Rattle.paper.specs.Answers.{findingOf, findingBytes, answer}
 use Rattle.paper.specs.Module.{told, checksOf, answerTo, replyLine}
 use Rattle.paper.proofs.Early.{none-early}
+use Rattle.paper.proofs.Memoranda.{memorandum-32}
 use Rattle.paper.proofs.Verdicts.{firstOf, number-is, first-given}
 use Rattle.paper.specs.ByHand.{Room}
 
@@ -105,14 +106,14 @@ module _ (D : List ℕ → Dig) (D32 : (l : List ℕ) → length (D l) ≡ 32) w
   path-short s x x′ sides l h h′ g =
       let y : Dig = foldUp D x sides l in
       let y′ : Dig = foldUp D x′ sides l in
-      let m : Dig = D (enc (memo (u1 x y x′ y′) (s .secret))) in
+      let t : Memo = u1 x y x′ y′ in
       omega (
         arith,
-        length-append (y ++ y′) m,
+        length-append (y ++ y′) (memorandum D t (s .secret)),
         length-append y y′,
         fold-short x sides l h g,
         fold-short x′ sides l h′ g,
-        D32 (enc (memo (u1 x y x′ y′) (s .secret))),
+        memorandum-32 D D32 t (s .secret),
       )
 
   -- a digest and the counter
@@ -120,8 +121,8 @@ module _ (D : List ℕ → Dig) (D32 : (l : List ℕ) → length (D l) ≡ 32) w
   unfolding be64
   raised-short y n h = omega (arith, length-append y (be64 n))
 
-  memo-short : (m : List ℕ) → length (D m) ≤ 96
-  memo-short m = omega (arith, D32 m)
+  memo-short : (t : Memo) (k : Dig) → length (memorandum D t k) ≤ 96
+  memo-short t k = omega (arith, memorandum-32 D D32 t k)
 
   abbrev Brief : Kind → Type 0
   Brief k = (s : Registers) (p : ℕ → List ℕ) → ((i : ℕ) → ShortAt (k .carries) i (p i))
@@ -140,15 +141,15 @@ module _ (D : List ℕ → Dig) (D32 : (l : List ℕ) → length (D l) ≡ 32) w
   unfolding kinds be64
   rows =
       (λ s p h. path-short s (p 0) (p 1) (sidesIn (p 2)) (siblingsIn (p 2)) (h 0) (h 1) (digests-short (countIn (p 2)) (drop 9 (p 2))))
-      and (λ s p h. memo-short _)
-      and (λ s p h. memo-short _)
-      and (λ s p h. memo-short _)
-      and (λ s p h. memo-short _)
-      and (λ s p h. memo-short _)
-      and (λ s p h. memo-short _)
-      and (λ s p h. memo-short _)
-      and (λ s p h. memo-short _)
-      and (λ s p h. memo-short _)
+      and (λ s p h. memo-short _ _)
+      and (λ s p h. memo-short _ _)
+      and (λ s p h. memo-short _ _)
+      and (λ s p h. memo-short _ _)
+      and (λ s p h. memo-short _ _)
+      and (λ s p h. memo-short _ _)
+      and (λ s p h. memo-short _ _)
+      and (λ s p h. memo-short _ _)
+      and (λ s p h. memo-short _ _)
       and (λ s p h. omega (arith, h 1))
       and (λ s p h. raised-short (p 5) _ (h 5))
       and (λ s p h. raised-short (p 4) _ (h 4))

@@ -1,7 +1,7 @@
 -- Document 01's shortcuts are refused: each by the check that the shortcut leaves out.
 use mathlib.Core.Path.{_≡_, refl, sym, subst, _∙_}
 use mathlib.Core.Bool.{Bool, true, false, true≢false}
-use mathlib.Core.List.{List, [], _∷_, List·Memᴰ, List·Memᴰ·head, List·Memᴰ·tail, List·Memᴰ·append-cases, Memᴰ·append-right}
+use mathlib.Core.List.{List, [], _∷_, _++_, List·Memᴰ, List·Memᴰ·head, List·Memᴰ·tail, List·Memᴰ·append-cases, Memᴰ·append-left, Memᴰ·append-right}
 use mathlib.Core.Logic.{_⊎_, inl, inr}
 use Prim.Native.Nat.{ℕ}
 use borrow.Author.Tests.{eqb-true}
@@ -12,7 +12,7 @@ use Rattle.seqs.specs.Bytes.{same, same-true, same-refl}
 use Rattle.hex.specs.Hex.{bytesOf}
 use Rattle.paper.specs.declared.Record.{Record}
 use Rattle.paper.specs.declared.Registers.{Registers}
-use Rattle.paper.specs.Strings.{Dig, nought, Memo, u1, v1, u2, ei, Str, memo, digest, memorandum}
+use Rattle.paper.specs.Strings.{Dig, nought, Memo, u1, v1, u2, ei, Str, digest, memorandum, memorandumForms}
 use Rattle.paper.specs.Requests as Q
 use Rattle.paper.specs.Requests.{Request, requestOf}
 use Rattle.paper.specs.Refusals.{Check, plain, order, requestOrder, compared, noneFits, tried, first-memo, second-memo, nextRecord, clearedRecord, placeForms, placeSays, leafOf, leafForms, changeForms, changeSays, needs, carried, those, applies, formedAt, formedBy, numbersBefore, Passed}
@@ -20,8 +20,8 @@ use Rattle.paper.specs.Module.{checksOf}
 use Rattle.paper.specs.Collisions.{Collision}
 use Rattle.paper.specs.Shortcuts.{verdictOn, refusalFor, Shortcuts}
 use Rattle.paper.proofs.Early.{among, numbered, numbered-late}
+use Rattle.paper.proofs.Memoranda.{is-digest, one-new-half}
 use Rattle.paper.proofs.Verdicts.{firstOf, refusal-first, in-those, fails-not, in-forms, passed-number, append-passed, reached}
-use Rattle.paper.proofs.Older.{memo-tells}
 
 -- ── every number is in the order ──
 
@@ -73,9 +73,12 @@ module _ (D : List ℕ → Dig) where
     where
       by-test : (b : Bool) → same (memorandum D t k) m ≡ b
           → (noneFits D k l m ≡ false → (x : Str) × List·Memᴰ x (tried D k l m) × (digest D x ≡ m))
-          → pick b false (noneFits D k l m) ≡ false → (x : Str) × List·Memᴰ x (memo t k ∷ pick b [] (tried D k l m)) × (digest D x ≡ m)
-      by-test true e later h = (memo t k, List·Memᴰ·head refl, same-true (memorandum D t k) m e)
-      by-test false e later h = let f = later h in (f .0, List·Memᴰ·tail (f .1), f .2)
+          → pick b false (noneFits D k l m) ≡ false
+          → (x : Str) × List·Memᴰ x (memorandumForms D t k ++ pick b [] (tried D k l m)) × (digest D x ≡ m)
+      by-test true e later h =
+          let f = is-digest D t k in
+          (f .0, Memᴰ·append-left [] (f .1), f .2 ∙ same-true (memorandum D t k) m e)
+      by-test false e later h = let f = later h in (f .0, Memᴰ·append-right (memorandumForms D t k) (f .1), f .2)
 
   of-numbers : {n : ℕ} {b : Bool} → Comparing D (plain n b)
   of-numbers m i = elim i [ ]
@@ -193,20 +196,18 @@ module _ (D : List ℕ → Dig) where
     abbrev old-join : Request
     old-join = Q.join x y x′ y′ (memorandum D (u1 x y x′ y′) k) z z′ (memorandum D (u1 y z w z′) k)
 
-    halves-meet : (refusalFor D s old-join ≡ 9) ⊎ Collision D (memo (u1 y z w z′) k ∷ memo (u1 y z y′ z′) k ∷ [])
+    -- the strings of m2 and of what it should say
+    abbrev fs : List Str
+    fs = memorandumForms D (u1 y z w z′) k ++ memorandumForms D (u1 y z y′ z′) k
+
+    halves-meet : (refusalFor D s old-join ≡ 9) ⊎ Collision D fs
     halves-meet = by-test (same (memorandum D (u1 y z y′ z′) k) (memorandum D (u1 y z w z′) k)) refl
       where
         by-test : (b : Bool) → same (memorandum D (u1 y z y′ z′) k) (memorandum D (u1 y z w z′) k) ≡ b
-            → (refusalFor D s old-join ≡ 9) ⊎ Collision D (memo (u1 y z w z′) k ∷ memo (u1 y z y′ z′) k ∷ [])
+            → (refusalFor D s old-join ≡ 9) ⊎ Collision D fs
         by-test true e =
-            inr (record {
-              one = memo (u1 y z w z′) k;
-              other = memo (u1 y z y′ z′) k;
-              one-formed = List·Memᴰ·head refl;
-              other-formed = List·Memᴰ·tail (List·Memᴰ·head refl);
-              differ = λ b. apart (memo-tells y z w z′ y z y′ z′ k k ny nz nw ny nz ny′ b);
-              agree = sym (same-true _ _ e);
-            })
+            inr (one-new-half D fs y z w z′ y z y′ z′ k k ny nz nw ny nz ny′ (λ x i. Memᴰ·append-left _ i)
+            (λ x i. Memᴰ·append-right (memorandumForms D (u1 y z w z′) k) i) (sym (same-true _ _ e)) (λ p. absurd (apart p)))
         by-test false e = inl (rw (o, same-refl (memorandum D (u1 x y x′ y′) k), e) refl)
 
 pub shortcuts : (D : List ℕ → Dig) → Shortcuts D

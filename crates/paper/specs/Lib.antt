@@ -2,7 +2,7 @@ pub mod Strings
 pub mod Requests
 pub mod Refusals
 pub mod Answers
-pub mod Memoranda
+pub mod Carrying
 pub mod Module
 pub mod Ceilings
 pub mod Collisions

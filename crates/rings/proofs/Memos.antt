@@ -1,12 +1,16 @@
--- What the memoranda mean, and that a tree stands for a list, stays so when more strings are formed.
-use mathlib.Core.List.{List}
+-- What the memoranda mean, and that a tree stands for a list, stays so when more strings are formed; and one memorandum has one
+-- meaning, or a fault can be shown.
+use mathlib.Core.Path.{_≡_, refl}
+use mathlib.Core.List.{List, List·Memᴰ·head}
+use mathlib.Core.Logic.{_⊎_, inr}
+use Prim.Native.Nat.{ℕ}
 use Rattle.paper.specs.declared.Record.{Record}
-use Rattle.paper.specs.Strings.{Dig, Memo, u1, v1, u2, ei, Str}
+use Rattle.paper.specs.Strings.{Dig, Memo, u1, v1, u2, ei, Str, digest, memorandum, memorandumForms}
 use Rattle.rings.specs.Trees.{Tree}
 use Rattle.rings.specs.Lists.{Item}
 use Rattle.rings.specs.Changes.{Step}
-use Rattle.rings.specs.Meanings.{Within, Known, StandsFor, Means}
-use Rattle.rings.proofs.Nodes.{tree-more}
+use Rattle.rings.specs.Meanings.{Within, Known, StandsFor, Means, Fault}
+use Rattle.rings.proofs.Nodes.{_>>=_, same-string, tree-more}
 use Rattle.rings.proofs.Align.{path-more, paths-more}
 use Rattle.rings.proofs.Items.{all-more}
 use Rattle.rings.proofs.Records.{known-more}
@@ -46,3 +50,10 @@ module _ (D : Str → Dig) where
         forth = λ G t T ls e g. m .forth G (λ z i. t z (s z i)) T ls e g;
         back = λ G t T ls e g. m .back G (λ z i. t z (s z i)) T ls e g;
       }
+
+-- two memoranda that are equal as bytes say the same with the same secret, or among their strings a fault can be shown
+pub same-memorandum : (D : List ℕ → Dig) {F : List Str} (t u : Memo) (k l : Dig) → Within (memorandumForms D t k) F
+    → Within (memorandumForms D u l) F → memorandum D t k ≡ memorandum D u l → Fault (digest D) F ⊎ ((t ≡ u) × (k ≡ l))
+same-memorandum D t u k l i j e = do
+  p ← same-string (digest D) (i _ (List·Memᴰ·head refl)) (j _ (List·Memᴰ·head refl)) e
+  inr (cc, cc)

@@ -1,30 +1,33 @@
 -- The book of a run: each memorandum in it is the digest of a string that was formed, and what that string says is so.
-use mathlib.Core.Path.{_≡_, refl, sym, ap, subst, _∙_}
+use mathlib.Core.Path.{_≡_, refl, sym, subst, _∙_}
 use mathlib.Core.Bool.{Bool, true, false}
-use mathlib.Core.List.{List, [], _∷_, _++_, append-nil}
+use mathlib.Core.List.{List, [], _∷_, _++_, append-nil, List·Memᴰ·head}
 use mathlib.Core.Logic.{_⊎_, inl, inr}
 use Prim.Native.Nat.{ℕ}
 use Rattle.seqs.specs.Choose.{pick, either}
 use Rattle.seqs.specs.Bytes.{same, same-true}
-use Rattle.paper.specs.Strings.{Dig, Memo, Str, leaf, node, entry, memo, digest}
+use Rattle.paper.specs.Strings.{Dig, Memo, Str, memo, digest, memorandum, memorandumForms}
+use Rattle.rings.specs.Changes.{Step}
 use Rattle.rings.specs.Meanings.{_∈_, Within, Fault, Means}
-use Rattle.rings.proofs.Nodes.{_>>=_, instead, same-string}
-use Rattle.rings.proofs.Memos.{means-more}
+use Rattle.rings.proofs.Nodes.{_>>=_, instead}
+use Rattle.rings.proofs.Memos.{means-more, same-memorandum}
 use Rattle.runs.specs.Also.{Backed, AllBacked}
 use Rattle.runs.specs.Run.{Issue, Reading, earliest, last, entered, standsFor, isIssued}
-
--- what a string says where it is a memorandum's
-abbrev says-of : Str → Memo → Memo
-says-of (memo t k) u = t
-says-of (leaf A A′ ω) u = u
-says-of (node x y) u = u
-says-of (entry r) u = u
 
 pub entered-none : (by : Reading) (b : List Issue) → entered by b [] ≡ b
 entered-none earliest b = append-nil b
 entered-none last b = refl
 
 module _ (D : List ℕ → Dig) where
+  -- an entry by the strings of its memorandum, and those strings of it
+  pub entry-by : {F : List Str} (t : Memo) (k : Dig) (c : List Step) → Within (memorandumForms D t k) F → Means (digest D) F t c
+      → Backed D F (record { memorandum = memorandum D t k; does = c })
+  entry-by t k c i m =
+      record { says = t; key = k; formed = i _ (List·Memᴰ·head refl); memorandum-is = refl; means = m }
+
+  strings-of : {F : List Str} {i : Issue} (e : Backed D F i) → Within (memorandumForms D (e .says) (e .key)) F
+  strings-of {F} e x (List·Memᴰ·head p) = subst (λ (y : Str). y ∈ F) (sym p) (e .formed)
+
   pub book-more : {F G : List Str} (b : List Issue) → Within F G → AllBacked D F b → AllBacked D G b
   book-more [] s h = tt
   book-more {F} {G} (i ∷ b) s h = (backed (h .0), book-more b s (h .1))
@@ -49,17 +52,18 @@ module _ (D : List ℕ → Dig) where
   book-enter earliest b i h e = book-add b i h e
   book-enter last b i h e = (e, h)
 
-  -- A memorandum with a formed string: what the string says is so and stands for what the book has, or the book does not
-  -- have it, or a fault can be shown.
-  pub look : {F : List Str} (m : Dig) (t : Memo) (k : Dig) (b : List Issue) → AllBacked D F b → memo t k ∈ F → digest D (memo t k) ≡ m
-      → (Fault (digest D) F ⊎ (isIssued m b ≡ false)) ⊎ Means (digest D) F t (standsFor m b)
+  -- A memorandum whose strings are formed: what it says is so and stands for what the book has, or the book does not have it,
+  -- or a fault can be shown.
+  pub look : {F : List Str} (m : Dig) (t : Memo) (k : Dig) (b : List Issue) → AllBacked D F b → Within (memorandumForms D t k) F
+      → memorandum D t k ≡ m → (Fault (digest D) F ⊎ (isIssued m b ≡ false)) ⊎ Means (digest D) F t (standsFor m b)
   look m t k [] h i e = inl (inr refl)
   look {F} m t k (j ∷ b) h i e = here (same (j .memorandum) m) refl (look m t k b (h .1) i e)
     where
       hit : j .memorandum ≡ m → (Fault (digest D) F ⊎ (true ≡ false)) ⊎ Means (digest D) F t (j .does)
       hit p = do
-        q ← instead inl (same-string (digest D) (h .0 .formed) i (h .0 .memorandum-is ∙ p ∙ sym e))
-        inr (subst (λ (u : Memo). Means (digest D) F u (j .does)) (ap (λ (s : Str). says-of s t) q) (h .0 .means))
+        q ← instead inl
+            (same-memorandum D (h .0 .says) t (h .0 .key) k (strings-of (h .0)) i (h .0 .memorandum-is ∙ p ∙ sym e))
+        inr (subst (λ (u : Memo). Means (digest D) F u (j .does)) (q .0) (h .0 .means))
 
       here : (c : Bool) → same (j .memorandum) m ≡ c
           → (Fault (digest D) F ⊎ (isIssued m b ≡ false)) ⊎ Means (digest D) F t (standsFor m b)

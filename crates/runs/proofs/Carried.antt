@@ -9,12 +9,12 @@ use lib.Dec.{eqb}
 use Rattle.seqs.specs.Choose.{pick}
 use Rattle.seqs.specs.Bytes.{same, same-true}
 use Rattle.paper.specs.declared.Registers.{Registers}
-use Rattle.paper.specs.Strings.{Dig, Memo, Str, memo, digest, memorandum, memorandumForms}
+use Rattle.paper.specs.Strings.{Dig, Memo, Str, digest, memorandum, memorandumForms}
 use Rattle.paper.specs.Requests.{Request}
 use Rattle.paper.specs.Refusals.{Check, noneFits, tried, needs, compared, carried, those, anyFails, formsAll, formedAt}
 use Rattle.paper.specs.Answers.{answer}
 use Rattle.paper.proofs.Verdicts.{the-one}
-use Rattle.rings.specs.Meanings.{_∈_, Within, Fault, Means}
+use Rattle.rings.specs.Meanings.{Within, Fault, Means}
 use Rattle.rings.proofs.Nodes.{_>>=_, instead}
 use Rattle.runs.specs.Run.{World, standsFor, isIssued}
 use Rattle.runs.specs.Also.{AllBacked}
@@ -86,8 +86,8 @@ module _ (D : List ℕ → Dig) (w : World) where
       Meant t m = Means (digest D) G t (standsFor m (w .book))
 
       -- one whose strings are formed
-      taken : (q : Request) (t : Memo) (m : Dig) → List·Memᴰ m (carried D s q) → memo t key ∈ G → memorandum D t key ≡ m
-          → Or q (Meant t m)
+      taken : (q : Request) (t : Memo) (m : Dig) → List·Memᴰ m (carried D s q) → Within (memorandumForms D t key) G
+          → memorandum D t key ≡ m → Or q (Meant t m)
       taken q t m c i e =
           instead (λ x. elim x [ inl f ↦ inl f | inr u ↦ inr (m, c, u) ]) (look D m t key (w .book) b i e)
 
@@ -97,7 +97,7 @@ module _ (D : List ℕ → Dig) (w : World) where
       one-way q t m c i h = by-test (same (memorandum D t key) m) refl h
         where
           by-test : (b : Bool) → same (memorandum D t key) m ≡ b → pick b false true ≡ false → Or q (Meant t m)
-          by-test true e h = taken q t m c (i _ (List·Memᴰ·head refl)) (same-true (memorandum D t key) m e)
+          by-test true e h = taken q t m c (λ x j. i x (Memᴰ·append-left _ j)) (same-true (memorandum D t key) m e)
           by-test false e h = absurd (true≢false h)
 
       pub means : {q : Request} {l : List Str} (t : Memo) (m : Dig) → Asked q l (t ∷ []) m → Or q (Meant t m)
@@ -110,7 +110,7 @@ module _ (D : List ℕ → Dig) (w : World) where
           by-test : (b : Bool) → same (memorandum D t key) m ≡ b → pick b false (noneFits D key (u ∷ []) m) ≡ false
               → Within (memorandumForms D t key ++ pick b [] (tried D key (u ∷ []) m)) G → Or q (Meant t m ⊎ Meant u m)
           by-test true e h i = do
-            x ← taken q t m (a .is-carried) (i _ (List·Memᴰ·head refl)) (same-true (memorandum D t key) m e)
+            x ← taken q t m (a .is-carried) (λ x j. i x (Memᴰ·append-left [] j)) (same-true (memorandum D t key) m e)
             inr (inl x)
           by-test false e h i = do
             x ← one-way q u m (a .is-carried) (λ x j. i x (Memᴰ·append-right (memorandumForms D t key) j)) h

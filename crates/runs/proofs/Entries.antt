@@ -14,6 +14,7 @@ use Rattle.paper.specs.Strings.{Dig, Memo, memorandum, foldUp}
 use Rattle.paper.specs.Requests.{Request, sidesIn, siblingsIn, Kind, kinds, kindOf, known, rowOf, part, requestOf}
 use Rattle.paper.specs.Answers.{Change, Effect, issues, answer}
 use Rattle.paper.specs.Module.{Told}
+use Rattle.paper.proofs.Memoranda.{memorandum-32}
 use Rattle.runs.specs.Run.{Turn, Issue, ofRuns, meaning, World, issuedBy, toldAt, next, after}
 use Rattle.runs.specs.Also.{lastOf, Entered, BookGrows}
 use Rattle.runs.proofs.Book.{entered-none}
@@ -94,7 +95,7 @@ module _ (D : List ℕ → Dig) (D32 : (l : List ℕ) → length (D l) ≡ 32) w
             issuing = λ h l.
                 let x = subst (λ (b : Bool). Issues D w b (asked t)) (le-leb (kindOf f) 0x0a l) so in (
                   record { memorandum = memorandum D (x .0) (w .registers .secret); does = meaning (w .book) (x .1) },
-                  ends-with (0x80 + kindIn t) (x .2) _ (toldAt D w t .says) (D32 _)
+                  ends-with (0x80 + kindIn t) (x .2) _ (toldAt D w t .says) (memorandum-32 D D32 _ _)
                       (ap (λ (a : Told). a .says) e ∙ ap (λ (b : List ℕ). (0x80 + kindIn t) ∷ b) (x .4)),
                   entry ∙ ap (λ (u : Effect). w .book ++ issuedBy D w u) (x .3),
                 );

@@ -8,7 +8,7 @@ use Rattle.seqs.specs.Choose.{pick, either-yes}
 use Rattle.seqs.specs.Bytes.{same, same-refl}
 use Rattle.hex.specs.Hex.{bytesOf, digitsOf}
 use Rattle.paper.specs.declared.Registers.{Registers}
-use Rattle.paper.specs.Strings.{Dig, Memo, Str, memo, digest}
+use Rattle.paper.specs.Strings.{Dig, Memo, Str, memorandum, memorandumForms}
 use Rattle.paper.specs.Requests.{Request, kindOf, known, fits, requestOf}
 use Rattle.paper.specs.Refusals.{replyRoom, noneFits, needs, passed, judge, carried}
 use Rattle.paper.specs.Answers.{Change, Answer, issue, answer}
@@ -95,7 +95,7 @@ module _ (D : List ℕ → Dig) where
     issued-first n i shown before t c e =
         let fs = formedAll late [] (needs D s q) in
         let l = leads-one n i in (
-          ((memo t (s .secret) ∷ before) ++ fs) ++ w .formed,
+          ((memorandumForms D t (s .secret) ++ before) ++ fs) ++ w .formed,
           record {
             to =
                 l .to
@@ -113,14 +113,14 @@ module _ (D : List ℕ → Dig) where
   -- ── memoranda ──
 
   -- the memorandum that a string says fits it
-  pub note-fits : (k : Dig) (t : Memo) (l : List Memo) → noneFits D k (t ∷ l) (digest D (memo t k)) ≡ false
-  note-fits k t l = rw (same-refl (digest D (memo t k))) refl
+  pub note-fits : (k : Dig) (t : Memo) (l : List Memo) → noneFits D k (t ∷ l) (memorandum D t k) ≡ false
+  note-fits k t l = rw (same-refl (memorandum D t k)) refl
 
   -- also where it is tried second
-  pub note-fits-second : (k : Dig) (t u : Memo) → noneFits D k (t ∷ u ∷ []) (digest D (memo u k)) ≡ false
-  note-fits-second k t u = by-test (same (digest D (memo t k)) (digest D (memo u k)))
+  pub note-fits-second : (k : Dig) (t u : Memo) → noneFits D k (t ∷ u ∷ []) (memorandum D u k) ≡ false
+  note-fits-second k t u = by-test (same (memorandum D t k) (memorandum D u k))
     where
-      by-test : (b : Bool) → pick b false (noneFits D k (u ∷ []) (digest D (memo u k))) ≡ false
+      by-test : (b : Bool) → pick b false (noneFits D k (u ∷ []) (memorandum D u k)) ≡ false
       by-test true = refl
       by-test false = note-fits k u []
 

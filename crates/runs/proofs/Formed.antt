@@ -13,7 +13,7 @@ use Rattle.seqs.specs.Bytes.{same, allZero}
 use Rattle.paper.specs.declared.Record.{Record}
 use Rattle.paper.specs.declared.Values.{Values}
 use Rattle.paper.specs.declared.Registers.{Registers}
-use Rattle.paper.specs.Strings.{Dig, Memo, u1, v1, u2, ei, Str, node, entry, memo, enc, digest, WellFormed, blank, malformed, recordForms, parentForms, H, up, upForms, foldForms}
+use Rattle.paper.specs.Strings.{Dig, nought, Memo, u1, v1, u2, ei, Str, leaf, node, entry, memo, enc, digest, memorandum, memorandumForms, WellFormed, blank, malformed, recordForms, parentForms, H, up, upForms, foldUp, foldForms}
 use Rattle.paper.specs.Requests as Q
 use Rattle.paper.specs.Requests.{Request}
 use Rattle.paper.specs.Refusals.{Check, top, nextRecord, clearedRecord, placeForms, placeSays, tried, leafOf, leafForms, changeForms, changeSays, needs, those, formsAll, applies, formedAt, Verdict, refused, passed, formedBy, judge}
@@ -78,14 +78,22 @@ module _ (D : List ℕ → Dig) (D32 : (l : List ℕ) → length (D l) ≡ 32) w
 
   -- ── what the definitions form ──
 
+  -- a memorandum's fields are sound; its strings, with those before it
+  abbrev WellMemo : Memo → Dig → Type 0
+  WellMemo t k = WellFormed (memo t k)
+
+  well-memo : (t : Memo) (k : Dig) (l : List Str) → WellMemo t k → Well l → Well (memorandumForms D t k ++ l)
+  well-memo t k l h i = (h, i)
+
   abbrev WellMemos : Dig → List Memo → Type 0
   WellMemos k [] = Unit {0}
-  WellMemos k (t ∷ l) = WellFormed (memo t k) × WellMemos k l
+  WellMemos k (t ∷ l) = WellMemo t k × WellMemos k l
 
   well-tried : (k : Dig) (says : List Memo) (m : Dig) → WellMemos k says → Well (tried D k says m)
   well-tried k [] m h = tt
   well-tried k (t ∷ l) m h =
-      (h .0, well-pick (same (digest D (memo t k)) m) [] (tried D k l m) tt (well-tried k l m (h .1)))
+      let fits = same (memorandum D t k) m in
+      well-memo t k (pick fits [] (tried D k l m)) (h .0) (well-pick fits [] (tried D k l m) tt (well-tried k l m (h .1)))
 
   well-record : (r : Record) → RecordFits r → Well (recordForms r)
   unfolding recordForms
@@ -166,10 +174,10 @@ module _ (D : List ℕ → Dig) (D32 : (l : List ℕ) → length (D l) ≡ 32) w
     key = s .secret
 
     -- a check that asks for one memorandum, with strings before it or without
-    says : (t : Memo) (m : Dig) → WellFormed (memo t key) → Well (tried D key (t ∷ []) m)
+    says : (t : Memo) (m : Dig) → WellMemo t key → Well (tried D key (t ∷ []) m)
     says t m h = well-tried key (t ∷ []) m (h, tt)
 
-    says-after : (l : List Str) (t : Memo) (m : Dig) → Well l → WellFormed (memo t key) → Well (l ++ tried D key (t ∷ []) m)
+    says-after : (l : List Str) (t : Memo) (m : Dig) → Well l → WellMemo t key → Well (l ++ tried D key (t ∷ []) m)
     says-after l t m k h = well-append l (tried D key (t ∷ []) m) k (says t m h)
 
     -- of a set or a clear
@@ -242,25 +250,31 @@ module _ (D : List ℕ → Dig) (D32 : (l : List ℕ) → length (D l) ≡ 32) w
 
     well-answer : (q : Request) → Is32 key → Wide q → Well (answer D s q .forms)
     well-answer (Q.path x x′ sides l) k w =
-        let y = fold-up-32 D D32 x sides l (w .0) (w .2) in
-        let y′ = fold-up-32 D D32 x′ sides l (w .1) (w .2) in
-        (w .0 and y and w .1 and y′ and k and tt)
-        and well-append (foldForms D x′ sides l) (foldForms D x sides l) (well-fold x′ sides l (w .1) (w .2))
-        (well-fold x sides l (w .0) (w .2))
-    well-answer (Q.witness x y m) k w = (w .0 and w .1 and k and tt) and tt
-    well-answer (Q.join x y x′ y′ m1 z z′ m2) k w = (w .0 and w .4 and w .2 and w .5 and k and tt) and tt
+        let y = foldUp D x sides l in
+        let y′ = foldUp D x′ sides l in
+        let y-32 = fold-up-32 D D32 x sides l (w .0) (w .2) in
+        let y′-32 = fold-up-32 D D32 x′ sides l (w .1) (w .2) in
+        well-memo (u1 x y x′ y′) key (foldForms D x′ sides l ++ foldForms D x sides l) (w .0 and y-32 and w .1 and y′-32 and k and tt)
+        (well-append (foldForms D x′ sides l) (foldForms D x sides l) (well-fold x′ sides l (w .1) (w .2))
+        (well-fold x sides l (w .0) (w .2)))
+    well-answer (Q.witness x y m) k w = well-memo (v1 x y) key [] (w .0 and w .1 and k and tt) tt
+    well-answer (Q.join x y x′ y′ m1 z z′ m2) k w =
+        well-memo (u1 x z x′ z′) key [] (w .0 and w .4 and w .2 and w .5 and k and tt) tt
     well-answer (Q.pair x1 y x1′ y′ m1 x2 z x2′ z′ m2) k w =
         let n = parent-32 D D32 y z (w .1) (w .5) in
         let n′ = parent-32 D D32 y′ z′ (w .3) (w .7) in
+        well-memo (u2 x1 x2 (H D y z) x1′ x2′ (H D y′ z′)) key (parentForms y′ z′ ++ parentForms y z)
         (w .0 and w .4 and n and w .2 and w .6 and n′ and k and tt)
-        and well-append (parentForms y′ z′) (parentForms y z) (well-parent y′ z′ (w .3) (w .7)) (well-parent y z (w .1) (w .5))
+        (well-append (parentForms y′ z′) (parentForms y z) (well-parent y′ z′ (w .3) (w .7)) (well-parent y z (w .1) (w .5)))
     well-answer (Q.raise x1 x2 y x1′ x2′ y′ m1 z z′ m2) k w =
-        (w .0 and w .1 and w .6 and w .3 and w .4 and w .7 and k and tt) and tt
-    well-answer (Q.swap x1 x2 y y′ m) k w = (w .2 and w .3 and k and tt) and tt
-    well-answer (Q.first A) k w = (refl and d32 _ and k and tt) and (w and w and refl and tt) and tt
-    well-answer (Q.place A A′ B′ ω y y′ m) k w = (w .4 and w .5 and k and tt) and tt
-    well-answer (Q.turn x y m) k w = (w .1 and w .0 and k and tt) and tt
-    well-answer (Q.chain x y m1 z m2) k w = (w .0 and w .2 and k and tt) and tt
+        well-memo (u2 x1 x2 z x1′ x2′ z′) key [] (w .0 and w .1 and w .6 and w .3 and w .4 and w .7 and k and tt) tt
+    well-answer (Q.swap x1 x2 y y′ m) k w = well-memo (ei y y′) key [] (w .2 and w .3 and k and tt) tt
+    well-answer (Q.first A) k w =
+        let x = leaf A A nought in
+        well-memo (ei nought (digest D x)) key (x ∷ []) (refl and d32 x and k and tt) ((w and w and refl and tt) and tt)
+    well-answer (Q.place A A′ B′ ω y y′ m) k w = well-memo (ei y y′) key [] (w .4 and w .5 and k and tt) tt
+    well-answer (Q.turn x y m) k w = well-memo (ei y x) key [] (w .1 and w .0 and k and tt) tt
+    well-answer (Q.chain x y m1 z m2) k w = well-memo (ei x z) key [] (w .0 and w .2 and k and tt) tt
     well-answer (Q.adopt y y′ m) k w = tt
     well-answer (Q.setTo A A′ old v y y′ m) k w = tt
     well-answer (Q.clear A A′ old y y′ m) k w = tt

@@ -8,10 +8,11 @@ use native.Mathlib.Omega.{arith}
 use lib.ListN.{length}
 use Rattle.seqs.specs.Choose.{opposite, _and_}
 use Rattle.paper.specs.declared.Registers.{Registers}
-use Rattle.paper.specs.Strings.{Dig, Memo, u1, v1, Str, enc, memo, parentForms, foldUp, foldForms}
+use Rattle.paper.specs.Strings.{Dig, Memo, u1, v1, Str, parentForms, foldUp, foldForms}
 use Rattle.paper.specs.Requests as Q
 use Rattle.paper.specs.Refusals.{noneFits}
 use Rattle.paper.specs.Answers as Does
+use Rattle.paper.proofs.Memoranda.{of-digests}
 use Rattle.runs.specs.Run.{Issue, isIssued, World}
 use Rattle.runs.specs.Ways.{Way, sidesOf, siblingsOf, rise, cut, Fork, Edit, risen, parents, risenTwo}
 use Rattle.runs.specs.Honest.{sayU1, sayU2, note, pathUp, joinUp, further, onePlace, pairUp, raiseUp, twoPlaces}
@@ -35,7 +36,7 @@ module _ {D : List ℕ → Dig} {w : World} (r : Ready D w) where
   is-open = rw (r .opened) refl
 
   pub note-digest : (t : Memo) → IsDigest (note D s t)
-  note-digest t = DD (enc (memo t (s .secret)))
+  note-digest t = of-digests D IsDigest DD t (s .secret)
 
   -- the memorandum that says t fits where t is asked for
   pub fits-own : (t : Memo) → noneFits D (s .secret) (t ∷ []) (note D s t) ≡ false

@@ -2,7 +2,7 @@
 -- line keeps it, its answer is true and what it does is legal, or a fault or a forgery can be shown.
 use mathlib.Core.Path.{_≡_, refl, sym, ap, subst, _∙_}
 use mathlib.Core.Bool.{Bool, true, false, true≢false}
-use mathlib.Core.List.{List, [], _∷_, _++_, List·Memᴰ, List·Memᴰ·head, List·Memᴰ·tail, Memᴰ·append-left, Memᴰ·append-right}
+use mathlib.Core.List.{List, [], _∷_, _++_, List·Memᴰ, List·Memᴰ·head, Memᴰ·append-left, Memᴰ·append-right}
 use mathlib.Core.Logic.{_⊎_, inl, inr}
 use Prim.Native.Nat.{ℕ, _+_}
 use native.Mathlib.Omega.{arith}
@@ -14,7 +14,7 @@ use Rattle.seqs.specs.Bytes.{same, same-true}
 use Rattle.paper.specs.declared.Record.{Record}
 use Rattle.paper.specs.declared.Values.{Values}
 use Rattle.paper.specs.declared.Registers.{Registers}
-use Rattle.paper.specs.Strings.{Dig, nought, emptyRecord, Memo, u1, v1, u2, ei, Str, leaf, memo, digest, malformed, blank, recordForms, inGap, parentForms, foldForms}
+use Rattle.paper.specs.Strings.{Dig, nought, emptyRecord, Memo, u1, v1, u2, ei, Str, leaf, digest, memorandumForms, malformed, blank, recordForms, inGap, parentForms, foldForms}
 use Rattle.paper.specs.Requests as Q
 use Rattle.paper.specs.Requests.{Request}
 use Rattle.paper.specs.Refusals.{isRoot, first-memo, nextRecord, clearedRecord, placeForms, placeSays, noneFits, tried, leafOf, leafForms, changeForms, changeSays, needs, those, applies, passed}
@@ -35,7 +35,7 @@ use Rattle.rings.proofs.InPaper as P
 use Rattle.runs.specs.Run.{Reading, Items, standsFor, meaning, World, landed}
 use Rattle.runs.specs.Safety.{TrueFinding, LegalEffect}
 use Rattle.runs.specs.Also.{AllBacked}
-use Rattle.runs.proofs.Book.{entered-none, book-more, book-enter}
+use Rattle.runs.proofs.Book.{entered-none, entry-by, book-more, book-enter}
 use Rattle.runs.proofs.Carried as C
 use Rattle.runs.proofs.Carried.{Given, Or, Asked, asked-at}
 
@@ -156,11 +156,16 @@ module _ (D : List ℕ → Dig) (D32 : (l : List ℕ) → length (D l) ≡ 32) w
         → Or D w (G q) q (Means dig (G q) t (standsFor m (w .book)))
     means {q} g n t m e = means-after (asked-at D w (G q) g n [] (t ∷ []) m e)
 
-    -- a line that issues a memorandum whose meaning is known; it is the first string that its answer forms
+    -- the strings that an answer forms before its memorandum
+    before-issue : {q : Request} → GivenTo q → {t : Memo} {l : List Str} → answer D s q .forms ≡ memorandumForms D t key ++ l
+        → Within l (G q)
+    before-issue g {t} e x i = g .of-answer x (rw e (Memᴰ·append-right (memorandumForms D t key) i))
+
+    -- a line that issues a memorandum whose meaning is known; its strings are the first that the answer forms
     issued : {q : Request} (g : GivenTo q) {t : Memo} {c : Change} {l : List Str} → answer D s q .after ≡ s
-        → answer D s q .effect ≡ issues t c → answer D s q .forms ≡ memo t key ∷ l
+        → answer D s q .effect ≡ issues t c → answer D s q .forms ≡ memorandumForms D t key ++ l
         → Means dig (G q) t (meaning (w .book) c) → Comes q
-    issued {q} g {t} e₁ e₂ e₃ m =
+    issued {q} g {t} {l = l} e₁ e₂ e₃ m =
         inr (
           record {
             tree = v .tree;
@@ -169,7 +174,7 @@ module _ (D : List ℕ → Dig) (D32 : (l : List ℕ) → length (D l) ≡ 32) w
             book =
                 rw e₂
                 (book-enter D by (w .book) _ (backed q)
-                (record { says = t; key = key; formed = g .of-answer _ (rw e₃ (List·Memᴰ·head refl)); memorandum-is = refl; means = m }));
+                (entry-by D t key _ (λ x i. g .of-answer x (rw e₃ (Memᴰ·append-left l i))) m));
             counter = rw e₂ (ap (λ (r : Registers). r .counter .0) e₁ ∙ v .counter);
           },
           of-doing {q = q} s (λ z. true≢false (let e = sym e₂ ∙ z in cc)),
@@ -214,7 +219,7 @@ module _ (D : List ℕ → Dig) (D32 : (l : List ℕ) → length (D l) ≡ 32) w
     pub accepted : (q : Request) → GivenTo q → Comes q
     accepted (Q.path x x′ sides l) g =
         let q = Q.path x x′ sides l in
-        let i : Within (foldForms D x′ sides l ++ foldForms D x sides l) (G q) = λ t m. g .of-answer t (List·Memᴰ·tail m) in
+        let i = before-issue g refl in
         issued g refl refl refl
         (path D D32 (G q) x x′ sides l (g .wide .0) (g .wide .1) (g .wide .2)
         (λ t m. i t (Memᴰ·append-right (foldForms D x′ sides l) m)) (λ t m. i t (Memᴰ·append-left _ m)))
@@ -227,7 +232,7 @@ module _ (D : List ℕ → Dig) (D32 : (l : List ℕ) → length (D l) ≡ 32) w
       issued g refl refl refl (T.join dig u v)
     accepted (Q.pair x1 y x1′ y′ m1 x2 z x2′ z′ m2) g = do
       let q = Q.pair x1 y x1′ y′ m1 x2 z x2′ z′ m2
-      let i : Within (parentForms y′ z′ ++ parentForms y z) (G q) = λ t m. g .of-answer t (List·Memᴰ·tail m)
+      let i = before-issue g refl
       u ← means g 8 (u1 x1 y x1′ y′) m1 refl
       v ← means g 9 (u1 x2 z x2′ z′) m2 refl
       issued g refl refl refl (P.pair D D32 (G q) (g .wide .1) (g .wide .5) (g .wide .3) (g .wide .7)
@@ -241,7 +246,7 @@ module _ (D : List ℕ → Dig) (D32 : (l : List ℕ) → length (D l) ≡ 32) w
       issued g refl refl refl (R.swap dig u)
     accepted (Q.first A) g =
         issued g refl refl refl
-        (R.first dig A (omega (arith, eqb-false A 0 (the-one (g .passes 4)))) (g .of-answer _ (List·Memᴰ·tail (List·Memᴰ·head refl))))
+        (R.first dig A (omega (arith, eqb-false A 0 (the-one (g .passes 4)))) (before-issue g refl _ (List·Memᴰ·head refl)))
     accepted (Q.place A A′ B′ ω y y′ m) g = do
       let q = Q.place A A′ B′ ω y y′ m
       let x1 = dig (leaf A A′ ω)

@@ -1,5 +1,5 @@
 -- The memoranda that a request carries, kind by kind: m, m1 and m2 of the table's column "carries". `carried` gathers them from
--- the checks that compare them; that it comes to these and no other is `CarriesJustThese`, which `proofs/Memoranda` shows.
+-- the checks that compare them; that it comes to these and no other is `CarriesJustThese`, which `proofs/Carrying` shows.
 use mathlib.Core.Path.{_≡_}
 use mathlib.Core.List.{List, [], _∷_}
 use Prim.Native.Nat.{ℕ}
