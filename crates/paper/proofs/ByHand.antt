@@ -15,6 +15,7 @@ use Rattle.hex.proofs.Laws.{bytes-length}
 use Rattle.paper.specs.declared.Registers.{Registers}
 use Rattle.paper.specs.Strings.{Dig, nought, Str, node, cost, digest, parentForms, up, upForms, foldForms, malformed, inGap, recordHash, H}
 use Rattle.paper.specs.Requests.{mostSiblings, kinds, known, fits, requestOf}
+use Rattle.paper.specs.Refusals.{longestFrame}
 use Rattle.paper.specs.Module.{unopened, answerTo}
 use Rattle.paper.proofs.Frames.{fits-path}
 use Rattle.paper.proofs.Ceilings.{cost-append}
@@ -121,7 +122,7 @@ edges D s l =
     record {
       gets-3 =
           λ digits n k c.
-          let long : length f ≡ 2122 = omega (arith, bytes-length l) in
+          let long : length f ≡ longestFrame = omega (arith, bytes-length l) in
           let short : fits f ≡ false = fits-path f k ∙ rw (long, c) refl in
           rw (n, digits, early .of-15, early .of-1, early .of-2, early .of-3, k, short) refl;
       gets-1 = λ n. rw (n, early .of-15) refl;

@@ -9,7 +9,8 @@ use lib.ListN.{length, getD, take, drop}
 use lib.Seq.{getD-drop, drop-drop}
 use Rattle.seqs.specs.Choose.{both, both-true, both-right}
 use Rattle.seqs.specs.Bytes.{numberOf}
-use Rattle.paper.specs.Requests.{Carried, aNumber, aDigest, aRecord, theValues, aPath, Kind, unlock, kinds, kindOf, rowOf, takesAll, soundAll, fits}
+use Rattle.paper.specs.Requests.{Carried, aNumber, aDigest, aRecord, theValues, aPath, Kind, unlock, kinds, kindOf, rowOf, takesAll, soundAll, fits, mostSiblings}
+use Rattle.paper.specs.Refusals.{beforeSiblings}
 
 -- ── a path ──
 
@@ -21,7 +22,7 @@ abbrev pub sidesAt : List ℕ → ℕ
 sidesAt f = numberOf (take 8 (drop 66 f))
 
 abbrev pub pathFits : (long n sides : ℕ) → Bool
-pathFits long n sides = both (eqb long (74 + 32 * n)) (both (leb n 64) (eqb (sides / 2 ^ n) 0))
+pathFits long n sides = both (eqb long (beforeSiblings + 32 * n)) (both (leb n mostSiblings) (eqb (sides / 2 ^ n) 0))
 
 module _ (f : List ℕ) where
   behind : List ℕ
@@ -38,8 +39,8 @@ module _ (f : List ℕ) where
   abbrev at : ℕ → Bool
   at k = both (eqb (length f) (1 + takesAll (rowOf k .carries) (drop 1 f))) (soundAll (rowOf k .carries) (drop 1 f))
 
-  glue : (long n sides c : ℕ) → c ≡ 74 + 32 * n
-      → both (eqb long c) (both (both (leb n 64) (eqb (sides / 2 ^ n) 0)) true) ≡ pathFits long n sides
+  glue : (long n sides c : ℕ) → c ≡ beforeSiblings + 32 * n
+      → both (eqb long c) (both (both (leb n mostSiblings) (eqb (sides / 2 ^ n) 0)) true) ≡ pathFits long n sides
   glue long n sides c e = rw (e, both-right)
 
   pub fits-path : kindOf f ≡ 1 → fits f ≡ pathFits (length f) (countAt f) (sidesAt f)

@@ -170,10 +170,10 @@ module _ (D : List ℕ → Dig) (D32 : (l : List ℕ) → length (D l) ≡ 32) w
     said-short (refused n fs) = omega arith
     said-short (passed fs) = omega (arith, lists-short s f)
 
-    line-short : (v : Verdict) → length (replyLine (told D s (kindOf f) (requestOf f) v)) ≤ 195
+    line-short : (v : Verdict) → length (replyLine (told D s (kindOf f) (requestOf f) v)) ≤ replyRoom
     line-short v = by-test (eqb (told D s (kindOf f) (requestOf f) v .refusal) 15)
       where
-        by-test : (b : Bool) → length (pick b [] (lineOf (told D s (kindOf f) (requestOf f) v .says))) ≤ 195
+        by-test : (b : Bool) → length (pick b [] (lineOf (told D s (kindOf f) (requestOf f) v .says))) ≤ replyRoom
         by-test true = omega arith
         by-test false = omega (arith, said-short v, line-length (told D s (kindOf f) (requestOf f) v .says))
 

@@ -5,8 +5,8 @@ use mathlib.Core.Bool.{Bool, true, false}
 use mathlib.Core.List.{List, [], _∷_, append-nil}
 use Prim.Native.Nat.{ℕ, _+_, _%_, _^_, _≤_, _<_}
 use native.Mathlib.Omega.{arith}
-use borrow.Author.Tests.{eq-eqb, ne-eqb, le-ltb, leb-true}
-use lib.Dec.{leb}
+use borrow.Author.Tests.{eq-eqb, ne-eqb, le-ltb, leb-true, ltb-true}
+use lib.Dec.{leb, ltb}
 use lib.ListN.{length, getD}
 use Rattle.seqs.specs.Choose.{both, both-true, _and_}
 use Rattle.seqs.specs.Bytes.{Bytes, number-be64}
@@ -14,8 +14,8 @@ use Rattle.hex.specs.Hex.{bytesOf, digitsOf}
 use Rattle.hex.proofs.Laws.{bytes-of-digits, digits-all, digits-length}
 use Rattle.paper.specs.Strings.{Dig}
 use Rattle.paper.specs.Requests as Q
-use Rattle.paper.specs.Requests.{Request, Carried, aDigest, sidesIn, Kind, kinds, kindOf, known, rowOf, takesAll, fits, requestOf}
-use Rattle.paper.specs.Refusals.{isHex}
+use Rattle.paper.specs.Requests.{Request, Carried, aDigest, sidesIn, Kind, kinds, kindOf, known, rowOf, takesAll, fits, requestOf, mostSiblings}
+use Rattle.paper.specs.Refusals.{isHex, longestFrame, longestLine}
 use Rattle.runs.specs.Frames.{together, pathBytes, written, frameOf}
 use Rattle.runs.specs.Sizes.{InEightBytes, ValuesFit, RecordFits}
 use Rattle.runs.proofs.Parts.{AllDigests, ShapedAll, most, shaped-row, part-at, shaped-number, shaped-digest, shaped-record, shaped-values, sides-small, sides-back, shaped-path, siblings-back, record-back, values-back}
@@ -23,7 +23,7 @@ use Rattle.runs.proofs.Parts.{AllDigests, ShapedAll, most, shaped-row, 
 -- ── requests that a line can carry ──
 
 abbrev pub Sendable : Request → Type 0
-Sendable (Q.path x x′ sides l) = AllDigests (x ∷ x′ ∷ []) × AllDigests l × (length l ≤ 64) × (sides < 2 ^ length l)
+Sendable (Q.path x x′ sides l) = AllDigests (x ∷ x′ ∷ []) × AllDigests l × (length l ≤ mostSiblings) × (sides < 2 ^ length l)
 Sendable (Q.witness x y m) = AllDigests (x ∷ y ∷ m ∷ [])
 Sendable (Q.join x y x′ y′ m1 z z′ m2) = AllDigests (x ∷ y ∷ x′ ∷ y′ ∷ m1 ∷ z ∷ z′ ∷ m2 ∷ [])
 Sendable (Q.pair x1 y x1′ y′ m1 x2 z x2′ z′ m2) = AllDigests (x1 ∷ y ∷ x1′ ∷ y′ ∷ m1 ∷ x2 ∷ z ∷ x2′ ∷ z′ ∷ m2 ∷ [])
@@ -45,14 +45,14 @@ Sendable (Q.unlock k) = AllDigests (k ∷ [])
 
 pub record ReadsBack (q : Request) : Type 0 where
   pub bytes : Bytes (frameOf q)
-  pub short : length (frameOf q) ≤ 2122
+  pub short : length (frameOf q) ≤ longestFrame
   pub kind-known : known (kindOf (frameOf q)) ≡ true
   pub fit : fits (frameOf q) ≡ true
   pub read : requestOf (frameOf q) ≡ q
 
 -- the kind is in the table, and what it carries leaves the frame short
 abbrev listed : (kind : ℕ) → Bool
-listed k = both (known k) (leb (most (rowOf k .carries)) 2121)
+listed k = both (known k) (ltb (most (rowOf k .carries)) longestFrame)
 
 -- by its row
 by-row : (q : Request) → listed (written q .kind) ≡ true → ShapedAll (rowOf (written q .kind) .carries) (written q .parts)
@@ -62,12 +62,12 @@ by-row q k h e =
     let kind = written q .kind in
     let row : Kind = rowOf kind in
     let ps = written q .parts in
-    let in-table = both-true (known kind) (leb (most (row .carries)) 2121) k in
+    let in-table = both-true (known kind) (ltb (most (row .carries)) longestFrame) k in
     let low = leb-true kind (length kinds) (both-true (leb 1 kind) (leb kind (length kinds)) (in-table .0) .1) in
     let all = shaped-row (row .carries) ps h in
     record {
       bytes = (omega arith, all .bytes);
-      short = omega (arith, all .short, leb-true (most (row .carries)) 2121 (in-table .1));
+      short = omega (arith, all .short, ltb-true (most (row .carries)) longestFrame (in-table .1));
       kind-known = in-table .0;
       fit = rw (
         all .fair,
@@ -153,7 +153,7 @@ line-is-hex q h =
     rw (
       ne-eqb (length (digitsOf f)) 0 (λ e. omega arith),
       ne-eqb (length (digitsOf f) % 2) 1 (λ e. omega arith),
-      le-ltb 4244 (length (digitsOf f)) (omega (arith, h .short)),
+      le-ltb longestLine (length (digitsOf f)) (omega (arith, h .short)),
       digits-all f (h .bytes),
     ) refl
 

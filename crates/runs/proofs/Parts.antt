@@ -14,7 +14,7 @@ use Rattle.seqs.specs.Bytes.{Bytes, be64, numberOf, number-be64, be64-length}
 use Rattle.paper.specs.declared.Record.{Record}
 use Rattle.paper.specs.declared.Values.{Values}
 use Rattle.paper.specs.Strings.{Dig}
-use Rattle.paper.specs.Requests.{Carried, aNumber, aDigest, aRecord, theValues, aPath, sidesIn, digestsIn, siblingsIn, recordIn, valuesIn, takes, takesAll, part, sound, soundAll}
+use Rattle.paper.specs.Requests.{Carried, aNumber, aDigest, aRecord, theValues, aPath, sidesIn, digestsIn, siblingsIn, recordIn, valuesIn, takes, takesAll, part, sound, soundAll, mostSiblings}
 use Rattle.runs.specs.Frames.{together, recordBytes, valuesBytes, pathBytes}
 use Rattle.runs.specs.Sizes.{InEightBytes, ValuesFit, RecordFits}
 use Rattle.runs.proofs.Widths.{Is32}
@@ -48,7 +48,7 @@ pub record Shaped (c : Carried) (b : List ℕ) : Type 0 where
   pub bytes : Bytes b
   pub long : (rest : List ℕ) → takes c (b ++ rest) ≡ length b
   pub fair : (rest : List ℕ) → sound c (b ++ rest) ≡ true
-  pub short : length b ≤ takes c (64 ∷ [])
+  pub short : length b ≤ takes c (mostSiblings ∷ [])
 
 abbrev pub ShapedAll : List Carried → List (List ℕ) → Type 0
 ShapedAll [] [] = Unit {0}
@@ -63,7 +63,7 @@ front c b rest h = (take-at b rest _ (sym (h .long rest)), drop-at b rest _ (sym
 -- the most that a row's things take, a path having at most 64 siblings
 abbrev pub most : List Carried → ℕ
 most [] = 0
-most (c ∷ cs) = takes c (64 ∷ []) + most cs
+most (c ∷ cs) = takes c (mostSiblings ∷ []) + most cs
 
 -- the things of a row, one behind the other
 pub record ShapedRow (cs : List Carried) (b : List ℕ) : Type 0 where
@@ -157,14 +157,14 @@ together-bytes [] h = tt
 together-bytes (d ∷ l) h = bytes-append d (together l) (h .0 .bytes) (together-bytes l (h .1))
 
 -- sides with no bit at n or above are below 2 ^ 64
-pub sides-small : (n sides : ℕ) → n ≤ 64 → sides < 2 ^ n → InEightBytes sides
+pub sides-small : (n sides : ℕ) → n ≤ mostSiblings → sides < 2 ^ n → InEightBytes sides
 sides-small n sides h k = lt-of-lt-of-le k (pow-le-pow-right (omega arith) h)
 
 pub sides-back : (sides n : ℕ) (l rest : List ℕ) → InEightBytes sides → sidesIn ((n ∷ (be64 sides ++ l)) ++ rest) ≡ sides
 sides-back sides n l rest h =
     rw (append-assoc (be64 sides) l rest, take-at (be64 sides) (l ++ rest) 8 (be64-length sides)) (number-be64 sides h)
 
-pub shaped-path : (sides : ℕ) (l : List Dig) → AllDigests l → length l ≤ 64 → sides < 2 ^ length l
+pub shaped-path : (sides : ℕ) (l : List Dig) → AllDigests l → length l ≤ mostSiblings → sides < 2 ^ length l
     → Shaped aPath (pathBytes sides l)
 shaped-path sides l h n k =
     let size : length (be64 sides ++ together l) ≡ 8 + 32 * length l =
@@ -174,7 +174,7 @@ shaped-path sides l h n k =
       long = λ rest. omega arith;
       fair = λ rest.
           let e = sides-back sides (length l) (together l) rest (sides-small (length l) sides n k) in
-          rw (le-leb (length l) 64 n, e, div-eq-of-lt k) refl;
+          rw (le-leb (length l) mostSiblings n, e, div-eq-of-lt k) refl;
       short = omega arith;
     }
 

@@ -10,6 +10,7 @@ use Rattle.seqs.specs.Choose.{opposite, _and_}
 use Rattle.paper.specs.declared.Registers.{Registers}
 use Rattle.paper.specs.Strings.{Dig, Memo, u1, v1, Str, parentForms, foldUp, foldForms}
 use Rattle.paper.specs.Requests as Q
+use Rattle.paper.specs.Requests.{mostSiblings}
 use Rattle.paper.specs.Refusals.{noneFits}
 use Rattle.paper.specs.Answers as Does
 use Rattle.paper.proofs.Memoranda.{of-digests}
@@ -45,7 +46,7 @@ module _ {D : List ℕ → Dig} {w : World} (r : Ready D w) where
   -- ── one line of each kind, in w with more strings and memoranda ──
 
   module _ (F : List Str) (b : List Issue) where
-    path-line : (p : Way) (x : Edit) → length p ≤ 64 → IsEdit x → Got D (at w F b) (pathUp D s p x ∷ []) (sayU1 x (risen D p x))
+    path-line : (p : Way) (x : Edit) → length p ≤ mostSiblings → IsEdit x → Got D (at w F b) (pathUp D s p x ∷ []) (sayU1 x (risen D p x))
     path-line p x n h =
         let l = siblingsOf D p in
         let v = x .was in
@@ -117,15 +118,15 @@ module _ {D : List ℕ → Dig} {w : World} (r : Ready D w) where
   pub one-place : (F : List Str) (b : List Issue) (p : Way) (x : Edit) → IsEdit x
       → Got D (at w F b) (onePlace D s p x) (sayU1 x (risen D p x))
   one-place F b p x h =
-      let c = cut 64 p in
-      let short = cut-short 64 p (omega arith) in
+      let c = cut mostSiblings p in
+      let short = cut-short mostSiblings p (omega arith) in
       let y = risen D (c .lowest) x in
       let g = path-line F b (c .lowest) x (short .0) h in
       let k = further-up (c .higher) x y (g .formed) (g .book) (short .1) h (risen-is DD (c .lowest) x h) (g .got) in
       let up = sym (rise-append D (c .lowest) (whole (c .higher)) (x .was))
-      ∙ ap (λ (q : Way). rise D q (x .was)) (cut-whole 64 p) in
+      ∙ ap (λ (q : Way). rise D q (x .was)) (cut-whole mostSiblings p) in
       let up′ = sym (rise-append D (c .lowest) (whole (c .higher)) (x .becomes))
-      ∙ ap (λ (q : Way). rise D q (x .becomes)) (cut-whole 64 p) in
+      ∙ ap (λ (q : Way). rise D q (x .becomes)) (cut-whole mostSiblings p) in
       says-also D (λ i. u1 (x .was) (up i) (x .becomes) (up′ i)) (then D g k)
 
   -- ── up a fork ──
