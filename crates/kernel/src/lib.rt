@@ -227,7 +227,7 @@ fn clear_record(r: Registers, f: &[u8]) -> Outcome
 fn ask(r: Registers, f: &[u8]) -> Outcome
     ensures { λ o. ⌜ o ≡ outcome r 14 (requestAt 14 (now (f .entry))) ⌝ }
 {
-    list_kinds::ask(
+    question_kinds::ask(
         r,
         item_at(f, 1),
         item_at(f, 9),
@@ -241,7 +241,7 @@ fn ask(r: Registers, f: &[u8]) -> Outcome
 fn ask_none(r: Registers, f: &[u8]) -> Outcome
     ensures { λ o. ⌜ o ≡ outcome r 15 (requestAt 15 (now (f .entry))) ⌝ }
 {
-    list_kinds::ask_none(r, item_at(f, 1))
+    question_kinds::ask_none(r, item_at(f, 1))
 }
 
 fn unlock(r: Registers, f: &[u8]) -> Outcome

@@ -1,8 +1,8 @@
 -- The five digests make up the memorandum, and their counts its count.
 use Prim.Native.Nat.{_+_, _≤_}
 use native.Mathlib.Omega.{arith}
-use Rattle.digests.proofs.Fit.{blocks-of}
-use Rattle.list_kinds.proofs.Laws.{record-cost, change-law}
+use Rattle.digests.proofs.Fit.{blocks-of, record-cost}
+use Rattle.list_kinds.proofs.Laws.{change-law}
 use borrow.Author.Needs.{needs}
 use Rattle.list_kinds.proofs.change_memo.Statement.{statement}
 use Rattle.list_kinds.proofs.change_memo.Tie as tie

@@ -6,8 +6,8 @@ use borrow.Author.Tests.{eq-eqb, ne-eqb}
 use Rattle.sha256.specs.Hash.{sha256}
 use Rattle.paper.specs.Requests as Q
 use Rattle.paper.specs.Refusals.{changeForms}
-use Rattle.replies.proofs.Stages.{Met, begun, turned, passes, refuses, works, stops, answers}
-use Rattle.list_kinds.proofs.Laws.{made}
+use Rattle.digests.proofs.Fit.{bytes-of, blocks-of}
+use Rattle.replies.proofs.Stages.{Met, begun, turned, compared, passes, refuses, works, stops, answers}
 use borrow.Author.Needs.{needs}
 use Rattle.list_kinds.proofs.clear_record.Statement.{statement}
 use Rattle.list_kinds.proofs.clear_record.Tie as tie
@@ -47,7 +47,8 @@ fits : (c : tie.Else7) → Worked 7 (c .before .before .before)
 fits c =
     let b = c .before .before .before in
     works (room (b .before .before .before))
-    (made (changeForms sha256 _ _ _ _) _ _ (b .change-memo .ensures) (c .before .same-digest .ensures) (c .if7 .left))
+    (compared (changeForms sha256 _ _ _ _) _ _ (bytes-of (b .change-memo .ensures)) (c .before .same-digest .ensures) (c .if7 .left)
+    (omega (arith, blocks-of (b .change-memo .ensures))))
 
 current : (c : tie.Else8) → Worked 8 (c .before .before .before .before .before .before)
 current c = passes (fits (c .before .before .before)) (turned (c .before .same-digest2 .ensures) (c .if8 .left))
@@ -81,7 +82,8 @@ returns-7 c =
     let b = d .before .before in
     c .refuse7 .ensures
     ∙ stops (room (b .before .before .before))
-    (made (changeForms sha256 _ _ _ _) _ _ (b .change-memo .ensures) (d .same-digest .ensures) (c .before .if7 .taken))
+    (compared (changeForms sha256 _ _ _ _) _ _ (bytes-of (b .change-memo .ensures)) (d .same-digest .ensures) (c .before .if7 .taken)
+    (omega (arith, blocks-of (b .change-memo .ensures))))
 
 returns-8 : tie.Need-returns-8
 returns-8 c =

@@ -6,8 +6,8 @@ use borrow.Author.Tests.{eq-eqb, ne-eqb}
 use Rattle.sha256.specs.Hash.{sha256}
 use Rattle.paper.specs.Requests as Q
 use Rattle.paper.specs.Refusals.{changeForms}
-use Rattle.replies.proofs.Stages.{Met, begun, turned, passes, refuses, works, stops, answers}
-use Rattle.list_kinds.proofs.Laws.{made}
+use Rattle.digests.proofs.Fit.{bytes-of, blocks-of}
+use Rattle.replies.proofs.Stages.{Met, begun, turned, compared, passes, refuses, works, stops, answers}
 use borrow.Author.Needs.{needs}
 use Rattle.list_kinds.proofs.set_record.Statement.{statement}
 use Rattle.list_kinds.proofs.set_record.Tie as tie
@@ -47,7 +47,8 @@ fits : (c : tie.Else6) → Worked 6 (c .before .before .before)
 fits c =
     let b = c .before .before .before in
     works (room (unworked b))
-    (made (changeForms sha256 _ _ _ _) _ _ (b .change-memo .ensures) (c .before .same-digest .ensures) (c .if6 .left))
+    (compared (changeForms sha256 _ _ _ _) _ _ (bytes-of (b .change-memo .ensures)) (c .before .same-digest .ensures) (c .if6 .left)
+    (omega (arith, blocks-of (b .change-memo .ensures))))
 
 current : (c : tie.Else7) → Worked 7 (c .before .before .before .before .before .before)
 current c = passes (fits (c .before .before .before)) (turned (c .before .same-digest2 .ensures) (c .if7 .left))
@@ -76,7 +77,8 @@ returns-6 c =
     let b = d .before .before in
     c .refuse6 .ensures
     ∙ stops (room (unworked b))
-    (made (changeForms sha256 _ _ _ _) _ _ (b .change-memo .ensures) (d .same-digest .ensures) (c .before .if6 .taken))
+    (compared (changeForms sha256 _ _ _ _) _ _ (bytes-of (b .change-memo .ensures)) (d .same-digest .ensures) (c .before .if6 .taken)
+    (omega (arith, blocks-of (b .change-memo .ensures))))
 
 returns-7 : tie.Need-returns-7
 returns-7 c =

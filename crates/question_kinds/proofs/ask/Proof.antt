@@ -7,11 +7,12 @@ use Rattle.sha256.specs.Hash.{sha256}
 use Rattle.paper.specs.Requests as Q
 use Rattle.paper.specs.Refusals.{leafForms}
 use Rattle.paper.specs.Answers.{findingBytes}
-use Rattle.replies.proofs.Stages.{Met, begun, turned, passes, refuses, works, stops, answers}
-use Rattle.list_kinds.proofs.Laws.{made, finding-short}
+use Rattle.digests.proofs.Fit.{bytes-of, blocks-of}
+use Rattle.replies.proofs.Stages.{Met, begun, turned, compared, passes, refuses, works, stops, answers}
+use Rattle.question_kinds.proofs.Laws.{finding-short}
 use borrow.Author.Needs.{needs}
-use Rattle.list_kinds.proofs.ask.Statement.{statement}
-use Rattle.list_kinds.proofs.ask.Tie as tie
+use Rattle.question_kinds.proofs.ask.Statement.{statement}
+use Rattle.question_kinds.proofs.ask.Tie as tie
 
 -- the first i checks are met, n blocks worked
 abbrev At : (i n : ℕ) → tie.Start → Type 0
@@ -46,7 +47,8 @@ fits : (c : tie.Else7) → Worked 7 (c .before .before .before)
 fits c =
     let b = c .before .before .before in
     works (met (b .before .before))
-    (made (leafForms sha256 _ _ _) _ _ (b .leaf-memo .ensures) (c .before .same-digest .ensures) (c .if7 .left))
+    (compared (leafForms sha256 _ _ _) _ _ (bytes-of (b .leaf-memo .ensures)) (c .before .same-digest .ensures) (c .if7 .left)
+    (omega (arith, blocks-of (b .leaf-memo .ensures))))
 
 current : (c : tie.Else8) → Worked 8 (c .before .before .before .before .before .before)
 current c = passes (fits (c .before .before .before)) (turned (c .before .same-digest2 .ensures) (c .if8 .left))
@@ -79,7 +81,8 @@ returns-7 c =
     let b = d .before .before in
     c .refuse7 .ensures
     ∙ stops (met (b .before .before))
-    (made (leafForms sha256 _ _ _) _ _ (b .leaf-memo .ensures) (d .same-digest .ensures) (c .before .if7 .taken))
+    (compared (leafForms sha256 _ _ _) _ _ (bytes-of (b .leaf-memo .ensures)) (d .same-digest .ensures) (c .before .if7 .taken)
+    (omega (arith, blocks-of (b .leaf-memo .ensures))))
 
 returns-8 : tie.Need-returns-8
 returns-8 c =

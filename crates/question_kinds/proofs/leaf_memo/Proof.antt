@@ -1,11 +1,11 @@
 -- The three digests make up the memorandum, and their counts its count.
 use Prim.Native.Nat.{_+_, _≤_}
 use native.Mathlib.Omega.{arith}
-use Rattle.digests.proofs.Fit.{blocks-of}
-use Rattle.list_kinds.proofs.Laws.{record-cost, leaf-law}
+use Rattle.digests.proofs.Fit.{blocks-of, record-cost}
+use Rattle.question_kinds.proofs.Laws.{leaf-law}
 use borrow.Author.Needs.{needs}
-use Rattle.list_kinds.proofs.leaf_memo.Statement.{statement}
-use Rattle.list_kinds.proofs.leaf_memo.Tie as tie
+use Rattle.question_kinds.proofs.leaf_memo.Statement.{statement}
+use Rattle.question_kinds.proofs.leaf_memo.Tie as tie
 
 -- at most four blocks
 short : (c : tie.After-v1)

@@ -7,8 +7,8 @@ use lib.ListN.{length}
 use Rattle.paper.specs.Requests as Q
 use Rattle.replies.proofs.Stages.{Met, begun, turned, passes, refuses, answers}
 use borrow.Author.Needs.{needs}
-use Rattle.list_kinds.proofs.ask_none.Statement.{statement}
-use Rattle.list_kinds.proofs.ask_none.Tie as tie
+use Rattle.question_kinds.proofs.ask_none.Statement.{statement}
+use Rattle.question_kinds.proofs.ask_none.Tie as tie
 
 -- the first i checks are met
 abbrev At : (i : ℕ) → tie.Start → Type 0

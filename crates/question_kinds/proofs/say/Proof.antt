@@ -1,7 +1,7 @@
 -- Each arm is the bytes of its finding.
 use borrow.Author.Needs.{needs}
-use Rattle.list_kinds.proofs.say.Statement.{statement}
-use Rattle.list_kinds.proofs.say.Tie as tie
+use Rattle.question_kinds.proofs.say.Statement.{statement}
+use Rattle.question_kinds.proofs.say.Tie as tie
 
 returns : tie.Need-returns
 returns c = rw (c .before .before .f .given .1) (c .say-recorded .ensures)

@@ -8,8 +8,8 @@ use Rattle.seqs.specs.Over.{Front, front-next}
 use Rattle.replies.specs.Outcomes.{acceptance}
 use Rattle.digests.proofs.Regroup.{behind2}
 use borrow.Author.Needs.{needs}
-use Rattle.list_kinds.proofs.say_gap.Statement.{statement}
-use Rattle.list_kinds.proofs.say_gap.Tie as tie
+use Rattle.question_kinds.proofs.say_gap.Statement.{statement}
+use Rattle.question_kinds.proofs.say_gap.Tie as tie
 
 returns : tie.Need-returns
 returns c =

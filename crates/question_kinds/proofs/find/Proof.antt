@@ -3,8 +3,8 @@ use mathlib.Core.Path.{refl, sym, _∙_}
 use borrow.Author.Tests.{eq-eqb, ne-eqb}
 use Rattle.paper.specs.Answers.{findingOf}
 use borrow.Author.Needs.{needs}
-use Rattle.list_kinds.proofs.find.Statement.{statement}
-use Rattle.list_kinds.proofs.find.Tie as tie
+use Rattle.question_kinds.proofs.find.Statement.{statement}
+use Rattle.question_kinds.proofs.find.Tie as tie
 
 returns : tie.Need-returns
 unfolding findingOf

@@ -1,8 +1,8 @@
 -- The first test decides, or else the gap.
 use borrow.Author.Tests.{eq-eqb, ne-eqb}
 use borrow.Author.Needs.{needs}
-use Rattle.list_kinds.proofs.meets.Statement.{statement}
-use Rattle.list_kinds.proofs.meets.Tie as tie
+use Rattle.question_kinds.proofs.meets.Statement.{statement}
+use Rattle.question_kinds.proofs.meets.Tie as tie
 
 returns : tie.Need-returns
 returns c = rw (eq-eqb _ _ (c .if1 .taken))
