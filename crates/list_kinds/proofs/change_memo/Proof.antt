@@ -9,7 +9,8 @@ use Rattle.list_kinds.proofs.change_memo.Tie as tie
 
 -- at most seven blocks
 short : (c : tie.After-u1)
-    → c .before .before .before .before .before .before .before .before .record-hash .result .blocks + c .before .before .before .before .before .before .leaf .result .blocks
+    → c .before .before .before .before .before .before .before .before .record-hash .result .blocks
+    + c .before .before .before .before .before .before .leaf .result .blocks
     + c .before .before .before .before .record-hash2 .result .blocks + c .before .before .leaf2 .result .blocks + c .u1 .result .blocks ≤ 7
 short c =
     let x′ = c .before .before in

@@ -22,7 +22,8 @@ two c = let a = c .args in order2 (a .k) (a .a .0) (a .an .0) (a .bn .0) (a .w) 
 abbrev Said : (tie.Start → Str) → tie.After-leaf3 → Bool → Type 0
 Said s l b = same (digest sha256 (s (l .before .before .before))) (l .before .before .before .args .m) ≡ b
 
-first : (c : tie.After-same-digest) → Said one (c .before .before .before .before .before .before .before .before .before) (c .same-digest .result)
+first : (c : tie.After-same-digest) → Said one (c .before .before .before .before .before .before .before .before .before)
+    (c .same-digest .result)
 first c =
     let l = c .before .before .before .before .before .before .before .before .before in
     let a = l .before .before .before .args in
@@ -36,7 +37,8 @@ first c =
     ∙ (λ i. digest sha256 (memo (u2 (x1 i) (x2 i) (a .y) (x1′ i) nought (a .yn)) (a .k)))))
 
 second : (c : tie.After-same-digest2)
-    → Said two (c .before .before .before .before .before .before .before .before .before .before .before .before .before) (c .same-digest2 .result)
+    → Said two (c .before .before .before .before .before .before .before .before .before .before .before .before .before)
+    (c .same-digest2 .result)
 second c =
     let l = c .before .before .before .before .before .before .before .before .before .before .before .before .before in
     let a = l .before .before .before .args in

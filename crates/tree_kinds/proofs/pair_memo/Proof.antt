@@ -28,7 +28,9 @@ add-t16 : tie.Need-add-t16
 add-t16 c = omega (arith, short (c .before .before .before .before .before .before))
 
 add-t17 : tie.Need-add-t17
-add-t17 c = omega (arith, short (c .before .before .before .before .before .before .before), blocks-of (c .before .before .before .before .u2 .ensures))
+add-t17 c =
+    let u = c .before .before .before .before in
+    omega (arith, short (u .before .before .before), blocks-of (u .u2 .ensures))
 
 returns : tie.Need-returns
 returns c =
