@@ -13,7 +13,7 @@ use Rattle.seqs.specs.Choose.{pick, both-true, either, opposite}
 use Rattle.seqs.specs.Bytes.{numberAt, number-at}
 use Rattle.hex.specs.Hex.{bytesOf}
 use Rattle.paper.specs.Requests.{kinds, kindOf, known, fits}
-use Rattle.paper.specs.Refusals.{isHex, refused, passed, judge}
+use Rattle.paper.specs.Refusals.{isHex, refused, passed, judge, beforeSiblings}
 use Rattle.paper.specs.Module.{refusalOf, frameChecks, isWritable, readRefusal, writeRefusal}
 use Rattle.paper.proofs.Frames as F
 use Rattle.lines.specs.Work.{lengths, fitting, refusalBy}
@@ -74,11 +74,11 @@ inside (x ∷ l) zero a b h = refl
 inside (x ∷ l) (suc i) a b h = inside l i a b (le-of-suc-le-suc h)
 
 -- a path: where the length is right, sides lies in the frame; where it is not, nothing else matters
-path-by : (f : List ℕ) → Dec (length f ≡ 74 + 32 * F.countAt f)
+path-by : (f : List ℕ) → Dec (length f ≡ beforeSiblings + 32 * F.countAt f)
     → F.pathFits (length f) (F.countAt f) (F.sidesAt f) ≡ fitting 1 (length f) (getD f 65 0) (numberAt f 66)
 unfolding fitting
 path-by f (yes e) = rw (number-at f 66 (omega arith))
-path-by f (no n) = rw (ne-eqb (length f) (74 + 32 * F.countAt f) n)
+path-by f (no n) = rw (ne-eqb (length f) (beforeSiblings + 32 * F.countAt f) n)
 
 fits-by-kind : (f : List ℕ) → Dec (1 < kindOf f) → 1 ≤ kindOf f → kindOf f ≤ 16
     → fits f ≡ fitting (kindOf f) (length f) (getD f 65 0) (numberAt f 66)
@@ -88,7 +88,7 @@ fits-by-kind f (yes h) l k =
     F.fits-other f h ∙ ap (eqb (length f)) (inside lengths (kindOf f) 1 0 (omega arith)) ∙ rw t
 fits-by-kind f (no n) l k =
     let e : kindOf f ≡ 1 = omega arith in
-    F.fits-path f e ∙ path-by f (ℕ-discrete (length f) (74 + 32 * F.countAt f))
+    F.fits-path f e ∙ path-by f (ℕ-discrete (length f) (beforeSiblings + 32 * F.countAt f))
     ∙ ap (λ (i : ℕ). fitting i (length f) (getD f 65 0) (numberAt f 66)) (sym e)
 
 own-by : (f : List ℕ) (t : Bool) → known (kindOf f) ≡ t → own f ≡ refusalBy (kindOf f) (length f) (getD f 65 0) (numberAt f 66)

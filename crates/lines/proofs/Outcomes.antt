@@ -12,7 +12,7 @@ use lib.Seq.{take-all, length-take-le}
 use Rattle.seqs.specs.Choose.{pick, opposite, either-yes}
 use Rattle.hex.specs.Hex.{bytesOf}
 use Rattle.paper.specs.Requests.{kindOf, known, fits}
-use Rattle.paper.specs.Refusals.{isHex}
+use Rattle.paper.specs.Refusals.{isHex, longestLine}
 use Rattle.paper.specs.Module.{isWritable, readRefusal, writeRefusal}
 use Rattle.lines.specs.declared.Read.the-variants.{Frame, Refused}
 use Rattle.lines.specs.declared.Wrote.the-variants.{Line, Rejected}
@@ -86,15 +86,15 @@ module _ (f : List ℕ) (space : ℕ) where
 -- ── a line that is too long ──
 
 -- above 4,244 digits it gets 1, whatever it holds
-pub too-long : (l : List ℕ) → 4244 < length l → isHex l .fails ≡ true
-too-long l h = rw (lt-ltb 4244 (length l) h, either-yes (eqb (length l % 2) 1), either-yes (eqb (length l) 0))
+pub too-long : (l : List ℕ) → longestLine < length l → isHex l .fails ≡ true
+too-long l h = rw (lt-ltb longestLine (length l) h, either-yes (eqb (length l % 2) 1), either-yes (eqb (length l) 0))
 
 -- so a reader that keeps 4,245 bytes of a line or more, and drops the rest, refuses the same lines alike
-cut-by : (l : List ℕ) (kept space : ℕ) → 4244 < kept → Dec (length l ≤ kept) → readOf (take kept l) space ≡ readOf l space
+cut-by : (l : List ℕ) (kept space : ℕ) → longestLine < kept → Dec (length l ≤ kept) → readOf (take kept l) space ≡ readOf l space
 cut-by l kept space h (yes k) = ap (λ (x : List ℕ). readOf x space) (take-all kept l k)
 cut-by l kept space h (no k) =
     let n = length-take-le kept l (omega arith) in
     read-1 (take kept l) space (too-long (take kept l) (omega arith)) ∙ sym (read-1 l space (too-long l (omega arith)))
 
-pub cut-line : (l : List ℕ) (kept space : ℕ) → 4244 < kept → readOf (take kept l) space ≡ readOf l space
+pub cut-line : (l : List ℕ) (kept space : ℕ) → longestLine < kept → readOf (take kept l) space ≡ readOf l space
 cut-line l kept space h = cut-by l kept space h (decLe (length l) kept)

@@ -12,7 +12,7 @@ use Rattle.seqs.specs.Bytes.{Bytes}
 use Rattle.hex.specs.Hex.{allDigits, bytesOf, digitsOf, lineOf}
 use Rattle.hex.proofs.Laws.{bytes-of-digits, digits-of-bytes, digits-all, digits-length, bytes-length}
 use Rattle.paper.specs.Requests.{kindOf}
-use Rattle.paper.specs.Refusals.{isHex}
+use Rattle.paper.specs.Refusals.{isHex, longestFrame, longestLine}
 use Rattle.paper.specs.Module.{isWritable, readRefusal, writeRefusal}
 use Rattle.lines.specs.declared.Read.{Read}
 use Rattle.lines.specs.declared.Read.the-variants.{Frame, Refused}
@@ -77,19 +77,19 @@ good-frame f space n h =
 record Digits (l : List ℕ) : Type 0 where
   some : length l ≡ 0 → ⊥
   even : length l % 2 ≡ 0
-  short : length l ≤ 4244
+  short : length l ≤ longestLine
   all : allDigits l ≡ true
 
 digits : (l : List ℕ) → isHex l .fails ≡ false → Digits l
 digits l h =
     let a = either-none (eqb (length l) 0) _ h in
     let b = either-none (eqb (length l % 2) 1) _ (a .1) in
-    let c = either-none (ltb 4244 (length l)) _ (b .1) in
+    let c = either-none (ltb longestLine (length l)) _ (b .1) in
     let odd : length l % 2 ≡ 1 → ⊥ = eqb-false (length l % 2) 1 (b .0) in
     record {
       some = eqb-false (length l) 0 (a .0);
       even = omega arith;
-      short = ltb-false 4244 (length l) (c .0);
+      short = ltb-false longestLine (length l) (c .0);
       all = opposite-no (allDigits l) (c .1);
     }
 
@@ -97,14 +97,14 @@ digits l h =
 
 digits-good : (f : List ℕ) → Bytes f → isWritable f .fails ≡ false → isHex (digitsOf f) .fails ≡ false
 digits-good f b h =
-    let a = either-none (eqb (length f) 0) (ltb 2122 (length f)) h in
+    let a = either-none (eqb (length f) 0) (ltb longestFrame (length f)) h in
     let some : length f ≡ 0 → ⊥ = eqb-false (length f) 0 (a .0) in
-    let short : length f ≤ 2122 = ltb-false 2122 (length f) (a .1) in
+    let short : length f ≤ longestFrame = ltb-false longestFrame (length f) (a .1) in
     let n = digits-length f in
     rw (
       ne-eqb (length (digitsOf f)) 0 (λ e. some (omega arith)),
       ne-eqb (length (digitsOf f) % 2) 1 (λ e. omega arith),
-      le-ltb 4244 (length (digitsOf f)) (omega arith),
+      le-ltb longestLine (length (digitsOf f)) (omega arith),
       digits-all f b,
     )
 
@@ -128,7 +128,7 @@ written-reads f d e n b w room =
 bytes-good : (l : List ℕ) → Digits l → isWritable (bytesOf l) .fails ≡ false
 bytes-good l g =
     let n = bytes-length l in
-    rw (ne-eqb (length (bytesOf l)) 0 (λ e. g .some (omega (arith, g .even))), le-ltb 2122 (length (bytesOf l)) (omega (arith, g .short)))
+    rw (ne-eqb (length (bytesOf l)) 0 (λ e. g .some (omega (arith, g .even))), le-ltb longestFrame (length (bytesOf l)) (omega (arith, g .short)))
 
 pub read-writes : ReadWrites
 unfolding lineOf

@@ -9,6 +9,7 @@ use Rattle.seqs.specs.Over.{written-fits}
 use Rattle.hex.specs.Hex.{lineOf}
 use Rattle.hex.proofs.Laws.{line-length}
 use Rattle.paper.specs.Module.{isWritable}
+use Rattle.paper.specs.Refusals.{longestFrame}
 use Rattle.lines.specs.declared.Wrote.the-variants.{Rejected}
 use Rattle.lines.proofs.Outcomes.{write-1, write-own, write-15, write-line}
 use borrow.Author.Needs.{needs}
@@ -20,13 +21,13 @@ abbrev frame : tie.Else2 → List ℕ
 frame c = c .before .before .before .before .args .frame .now
 
 size : (c : tie.Else2) → isWritable (frame c) .fails ≡ false
-size c = rw (ne-eqb (length (frame c)) 0 (c .before .if1 .left), le-ltb 2122 (length (frame c)) (c .if2 .left))
+size c = rw (ne-eqb (length (frame c)) 0 (c .before .if1 .left), le-ltb longestFrame (length (frame c)) (c .if2 .left))
 
 returns : tie.Need-returns
 returns c = (sym (write-1 _ _ (rw (eq-eqb _ 0 (c .if1 .taken)))), refl)
 
 returns-2 : tie.Need-returns-2
-returns-2 c = (sym (write-1 _ _ (rw (ne-eqb _ 0 (c .before .if1 .left), lt-ltb 2122 _ (c .if2 .taken)))), refl)
+returns-2 c = (sym (write-1 _ _ (rw (ne-eqb _ 0 (c .before .if1 .left), lt-ltb longestFrame _ (c .if2 .taken)))), refl)
 
 returns-3 : tie.Need-returns-3
 returns-3 c =
