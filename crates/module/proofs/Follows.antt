@@ -80,7 +80,7 @@ only-the-reply s line space after o p =
     ∙ ap (λ (k : ℕ). drop k space) (sym n)
 
 pub reply-fits : ReplyFits
-reply-fits s line space after o p = by-room (decLe 195 (length space))
+reply-fits s line space after o p = by-room (decLe replyRoom (length space))
   where
     t : Told
     t = answerTo sha256 s line (length space)
@@ -100,7 +100,7 @@ reply-fits s line space after o p = by-room (decLe 195 (length space))
         let rest = length-drop (length (replyLine t)) space in
         (omega (arith, r .holds (length space)), omega arith, omega arith)
 
-    by-room : Dec (195 ≤ length space) → (o .length ≤ replyRoom) × (o .length ≤ length space) × (length after ≡ length space)
+    by-room : Dec (replyRoom ≤ length space) → (o .length ≤ replyRoom) × (o .length ≤ length space) × (length after ≡ length space)
     by-room (yes h) = all (omega (arith, r .holds (length space)))
     by-room (no h) = all (omega (arith, nothing (r .too-small (length space) (omega (arith, h)))))
 
@@ -183,11 +183,11 @@ refusing-breaks m keeps s refuses = by-open (s .opened) refl
   where
     by-open : (b : Bool) → s .opened ≡ b → ⊥
     by-open true h =
-        let space : List ℕ = replicate 195 0 in
+        let space : List ℕ = replicate replyRoom 0 in
         let line = digitsOf levelPath in
         refuses line space (ap (λ (x : Answered). x .refused) (keeps s line space .returned) ∙ level-accepted s h)
     by-open false h =
-        let space : List ℕ = replicate 195 0 in
+        let space : List ℕ = replicate replyRoom 0 in
         let k : Dig = replicate 32 1 in
         let line = digitsOf (0x10 ∷ k) in
         let o = m s line space in

@@ -19,7 +19,7 @@ use Rattle.hex.proofs.Laws.{bytes-length, line-length}
 use Rattle.paper.specs.declared.Registers.{Registers}
 use Rattle.paper.specs.Requests as Q
 use Rattle.paper.specs.Requests.{kindOf, requestOf}
-use Rattle.paper.specs.Refusals.{isHex, Verdict, refused, judge}
+use Rattle.paper.specs.Refusals.{isHex, Verdict, refused, judge, longestFrame, longestLine, replyRoom}
 use Rattle.paper.specs.Module.{refusalOf, frameChecks, readRefusal, Told, told, answerFrame, answerTo, replyLine, spaceAfter}
 use Rattle.paper.proofs.Early.{none-early}
 use Rattle.paper.proofs.Room.{room}
@@ -43,44 +43,44 @@ module _ (s : Registers) (line : List ℕ) where
   abbrev judged : Verdict → Told
   judged v = told sha256 s (kindOf f) (requestOf f) v
 
-  pub without-room : (space : ℕ) → space < 195 → answerTo sha256 s line space ≡ judged (refused 15 [])
+  pub without-room : (space : ℕ) → space < replyRoom → answerTo sha256 s line space ≡ judged (refused 15 [])
   unfolding answerTo
-  without-room space h = rw (lt-ltb space 195 h, none-early sha256 s (requestOf f) .of-15) refl
+  without-room space h = rw (lt-ltb space replyRoom h, none-early sha256 s (requestOf f) .of-15) refl
 
   -- where there is room it does not matter how much
-  pub with-room : (space : ℕ) → 195 ≤ space → answerTo sha256 s line space ≡ answerTo sha256 s line 195
+  pub with-room : (space : ℕ) → replyRoom ≤ space → answerTo sha256 s line space ≡ answerTo sha256 s line replyRoom
   unfolding answerTo
-  with-room space h = rw (le-ltb space 195 h) refl
+  with-room space h = rw (le-ltb space replyRoom h) refl
 
-  pub not-hex : isHex line .fails ≡ true → answerTo sha256 s line 195 ≡ judged (refused 1 [])
+  pub not-hex : isHex line .fails ≡ true → answerTo sha256 s line replyRoom ≡ judged (refused 1 [])
   unfolding answerTo
   not-hex h = rw (h, none-early sha256 s (requestOf f) .of-15, none-early sha256 s (requestOf f) .of-1) refl
 
-  pub is-hex : isHex line .fails ≡ false → answerTo sha256 s line 195 ≡ answerFrame sha256 s f
+  pub is-hex : isHex line .fails ≡ false → answerTo sha256 s line replyRoom ≡ answerFrame sha256 s f
   unfolding answerTo answerFrame
   is-hex h = rw (h, none-early sha256 s (requestOf f) .of-15, none-early sha256 s (requestOf f) .of-1) refl
 
 -- ── the reader, with a space of 2,122 bytes ──
 
 -- a line of digits has a frame that fits the space
-short-by : (line : List ℕ) → Dec (length line ≤ 4244) → isHex line .fails ≡ false → length line ≤ 4244
+short-by : (line : List ℕ) → Dec (length line ≤ longestLine) → isHex line .fails ≡ false → length line ≤ longestLine
 short-by line (yes h) e = h
 short-by line (no h) e = absurd (true≢false (sym (too-long line (omega arith)) ∙ e))
 
 module _ (line : List ℕ) where
   abbrev n : ℕ
-  n = readRefusal line 2122
+  n = readRefusal line longestFrame
 
-  short : isHex line .fails ≡ false → length (bytesOf line) ≤ 2122
-  short e = let h = short-by line (decLe (length line) 4244) e in omega (arith, bytes-length line)
+  short : isHex line .fails ≡ false → length (bytesOf line) ≤ longestFrame
+  short e = let h = short-by line (decLe (length line) longestLine) e in omega (arith, bytes-length line)
 
   -- it refuses 1, or what the frame's own checks say
   read-1 : isHex line .fails ≡ true → n ≡ 1
-  read-1 e = read-by line 2122 ∙ rw e refl
+  read-1 e = read-by line longestFrame ∙ rw e refl
 
   read-own : isHex line .fails ≡ false → n ≡ refusalOf (judge (2 ∷ 3 ∷ []) [] (frameChecks (bytesOf line)))
   read-own e =
-      read-by line 2122 ∙ rw (e, le-ltb 2122 (length (bytesOf line)) (short e)) refl ∙ sym (frame-by (bytesOf line))
+      read-by line longestFrame ∙ rw (e, le-ltb longestFrame (length (bytesOf line)) (short e)) refl ∙ sym (frame-by (bytesOf line))
 
 -- what is found tells the refusal
 number-by : (k l m : ℕ) (b : Bool) → eqb m 0 ≡ b → numberOf (pick b (Frame k l) (Refused m)) ≡ m
@@ -103,18 +103,18 @@ found-by k l m false e k′ l′ h = let t = ap (tagOf the-type) h in absurd (om
 
 module _ (s : Registers) (line : List ℕ) where
   -- a line that the reader refuses
-  refused-line : (b : Bool) → isHex line .fails ≡ b → (m : ℕ) → m ≡ readRefusal line 2122 → (m ≡ 0 → ⊥)
-      → refusal s m 0 ≡ outcomeOf (answerTo sha256 s line 195)
+  refused-line : (b : Bool) → isHex line .fails ≡ b → (m : ℕ) → m ≡ readRefusal line longestFrame → (m ≡ 0 → ⊥)
+      → refusal s m 0 ≡ outcomeOf (answerTo sha256 s line replyRoom)
   refused-line true h m e z =
       ap (λ (i : ℕ). refusal s i 0) (e ∙ read-1 line h) ∙ sym (ap outcomeOf (not-hex s line h))
   refused-line false h m e z =
       frame-refused s (bytesOf line) m (e ∙ read-own line h) z ∙ sym (ap outcomeOf (is-hex s line h))
 
-  pub line-refused : (got : Read) → got ≡ readOf line 2122 → tagOf the-type got ≡ 1 → (m : ℕ) → m ≡ numberOf got
-      → refusal s m 0 ≡ outcomeOf (answerTo sha256 s line 195)
+  pub line-refused : (got : Read) → got ≡ readOf line longestFrame → tagOf the-type got ≡ 1 → (m : ℕ) → m ≡ numberOf got
+      → refusal s m 0 ≡ outcomeOf (answerTo sha256 s line replyRoom)
   unfolding readOf
   line-refused got e t m h =
-      let i : ℕ = readRefusal line 2122 in
+      let i : ℕ = readRefusal line longestFrame in
       let k = kindOf (bytesOf line) in
       let l = length (bytesOf line) in
       let r = h ∙ ap numberOf e ∙ number-by k l i (eqb i 0) refl in
@@ -122,17 +122,17 @@ module _ (s : Registers) (line : List ℕ) where
       (λ z. refused-by k l i (eqb i 0) refl (ap (tagOf the-type) (sym e) ∙ t) (sym r ∙ z))
 
   -- a line that it reads
-  read-line-by : (b : Bool) → isHex line .fails ≡ b → readRefusal line 2122 ≡ 0
-      → (length (bytesOf line) ≤ 2122) × (answerFrame sha256 s (bytesOf line) ≡ answerTo sha256 s line 195)
+  read-line-by : (b : Bool) → isHex line .fails ≡ b → readRefusal line longestFrame ≡ 0
+      → (length (bytesOf line) ≤ longestFrame) × (answerFrame sha256 s (bytesOf line) ≡ answerTo sha256 s line replyRoom)
   read-line-by true h z = let w = read-1 line h in absurd (omega arith)
   read-line-by false h z = (short line h, sym (is-hex s line h))
 
-  pub line-read : (k l : ℕ) → Frame k l ≡ readOf line 2122
-      → (l ≡ length (bytesOf line)) × (length (bytesOf line) ≤ 2122)
-      × (answerFrame sha256 s (bytesOf line) ≡ answerTo sha256 s line 195)
+  pub line-read : (k l : ℕ) → Frame k l ≡ readOf line longestFrame
+      → (l ≡ length (bytesOf line)) × (length (bytesOf line) ≤ longestFrame)
+      × (answerFrame sha256 s (bytesOf line) ≡ answerTo sha256 s line replyRoom)
   unfolding readOf
   line-read k l e =
-      let i : ℕ = readRefusal line 2122 in
+      let i : ℕ = readRefusal line longestFrame in
       let w = found-by (kindOf (bytesOf line)) (length (bytesOf line)) i (eqb i 0) refl k l e in
       let v = read-line-by (isHex line .fails) refl (w .0) in
       (w .1, v .0, v .1)
@@ -143,8 +143,8 @@ module _ (s : Registers) (line : List ℕ) where
 
 -- ── the reply's line ──
 
-pub not-15 : (s : Registers) (line : List ℕ) → eqb (answerTo sha256 s line 195 .refusal) 15 ≡ false
-not-15 s line = ne-eqb _ 15 (room sha256 sha256-length s line .enough 195 (omega arith))
+pub not-15 : (s : Registers) (line : List ℕ) → eqb (answerTo sha256 s line replyRoom .refusal) 15 ≡ false
+not-15 s line = ne-eqb _ 15 (room sha256 sha256-length s line .enough replyRoom (omega arith))
 
 module _ (t : Told) (o : Outcome) (e : o ≡ outcomeOf t) (long : length (o .reply) ≡ 97) where
   -- the reply lies whole in the outcome's bytes
@@ -163,7 +163,7 @@ module _ (t : Told) (o : Outcome) (e : o ≡ outcomeOf t) (long : length (o .rep
       ap (λ (x : Outcome). take (o .length - 0) (x .reply)) e ∙ take-at (t .says) _ (o .length - 0) (omega arith)
 
   -- its line is written where there is room
-  module _ (d : List ℕ) (room : 195 ≤ length d) (r : eqb (t .refusal) 15 ≡ false) where
+  module _ (d : List ℕ) (room : replyRoom ≤ length d) (r : eqb (t .refusal) 15 ≡ false) where
     line-is : replyLine t ≡ lineOf (t .says)
     line-is = rw r refl
 

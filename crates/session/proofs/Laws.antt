@@ -16,6 +16,7 @@ use Rattle.pieces.specs.declared.Cut.the-variants.{Line, More}
 use Rattle.pieces.specs.Cutting.{cutOf, spaceOf}
 use Rattle.paper.specs.declared.Registers.{Registers}
 use Rattle.paper.specs.Module.{answerTo, replyLine}
+use Rattle.paper.specs.Refusals.{replyRoom}
 use Rattle.module.specs.declared.Answered.{Answered}
 use Rattle.module.specs.Laws.{Promised}
 use Rattle.session.specs.Serving.{Stand, answerAt, outAfter, servedFrom, ServedAs, RepliedAs, FinishedAs}
@@ -60,7 +61,7 @@ behind rest i s d m o w =
 
 -- fewer than 195 bytes are left
 pub no-room : (rest : List ℕ) (i : ℕ) (s : Registers) (d : List ℕ) (n : ℕ) (o : List ℕ) (w : ℕ)
-    → ltb (length o - w) 195 ≡ true → servedFrom rest i s d n o w ≡ stopped s i d n o w
+    → ltb (length o - w) replyRoom ≡ true → servedFrom rest i s d n o w ≡ stopped s i d n o w
 no-room [] i s d n o w h = refl
 no-room (b ∷ rest) i s d n o w h = rw h
 
@@ -70,7 +71,7 @@ pub used-up : (p : List ℕ) (i : ℕ) (s : Registers) (d : List ℕ) (n : ℕ) 
 used-up p i s d n o w h = rw (drop-of-length-le p h)
 
 -- there is room
-module _ (s : Registers) (o : List ℕ) (w : ℕ) (room : ltb (length o - w) 195 ≡ false) where
+module _ (s : Registers) (o : List ℕ) (w : ℕ) (room : ltb (length o - w) replyRoom ≡ false) where
   -- a line was cut out of it: one byte b before l, by whether it is 0A (u) and whether it finds room (v)
   line-by : (p l d : List ℕ) (b i n next m : ℕ) (u v : Bool)
       → eqb b 0x0a ≡ u → ltb n (length d) ≡ v → drop (i + 1) p ≡ l
@@ -140,19 +141,19 @@ told t s i d n o w e =
     }
 
 module _ (t : Stand) (p d o d′ : List ℕ) (s : Registers) (i n w : ℕ) (cut : Cut) (e : t ≡ servedFrom (drop i p) i s d n o w)
-    (room : 195 ≤ length o - w) (h : cut ≡ cutOf (drop i p) i (length d) n) (k : d′ ≡ spaceOf (drop i p) d n) where
+    (room : replyRoom ≤ length o - w) (h : cut ≡ cutOf (drop i p) i (length d) n) (k : d′ ≡ spaceOf (drop i p) d n) where
   -- a line was cut out and answered
   pub turn-line : (next m : ℕ) (a : Answered) (o′ : List ℕ) → cut ≡ Line next m → RepliedAs s (take (m - 0) d′) w o a o′
       → t ≡ servedFrom (drop next p) next (a .registers) d′ 0 o′ (w + a .length)
   turn-line next m a o′ g r =
       let z : m - 0 ≡ m = omega arith in
-      let f = e ∙ line-served s o w (le-ltb (length o - w) 195 room) p d i n next m (sym h ∙ g) in
+      let f = e ∙ line-served s o w (le-ltb (length o - w) replyRoom room) p d i n next m (sym h ∙ g) in
       rw (r .returned, r .left, z, k) f
 
   -- the piece was used up
   pub turn-more : (m : ℕ) → i ≤ length p → cut ≡ More m → t ≡ servedFrom (drop (length p) p) (length p) s d′ m o w
   turn-more m b g =
-      e ∙ more-served s o w (le-ltb (length o - w) 195 room) p d i n m b (sym h ∙ g)
+      e ∙ more-served s o w (le-ltb (length o - w) replyRoom room) p d i n m b (sym h ∙ g)
       ∙ rw (drop-length p, k)
 
 -- ── the end of the input ──

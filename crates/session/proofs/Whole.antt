@@ -16,6 +16,7 @@ use Rattle.pieces.specs.Whole.{lastOf, linesOf, endedIn, cutTo, foundIn, spaceL
 use Rattle.pieces.proofs.Whole.{found-ended, cut-anyhow}
 use Rattle.paper.specs.declared.Registers.{Registers}
 use Rattle.paper.specs.Module.{Told, replyLine}
+use Rattle.paper.specs.Refusals.{longestLine, replyRoom}
 use Rattle.lines.proofs.Outcomes.{too-long}
 use Rattle.module.specs.declared.Answered.{Answered}
 use Rattle.module.proofs.Laws.{without-room, with-room, not-hex}
@@ -36,16 +37,16 @@ registers-append s [] m = refl
 registers-append s (x ∷ l) m = registers-append (toldOf s x .after) l m
 
 -- a line cut to 4,245 bytes or more is answered as the whole line: cut, it is too long as well
-told-by : (s : Registers) (l : List ℕ) (room : ℕ) → 4244 < room → Dec (length l ≤ room) → toldOf s (take room l) ≡ toldOf s l
+told-by : (s : Registers) (l : List ℕ) (room : ℕ) → longestLine < room → Dec (length l ≤ room) → toldOf s (take room l) ≡ toldOf s l
 told-by s l room h (yes k) = ap (toldOf s) (take-all room l k)
 told-by s l room h (no k) =
     let n = length-take-le room l (omega arith) in
     not-hex s (take room l) (too-long (take room l) (omega arith)) ∙ sym (not-hex s l (too-long l (omega arith)))
 
-told-cut : (s : Registers) (l : List ℕ) (room : ℕ) → 4244 < room → toldOf s (take room l) ≡ toldOf s l
+told-cut : (s : Registers) (l : List ℕ) (room : ℕ) → longestLine < room → toldOf s (take room l) ≡ toldOf s l
 told-cut s l room h = told-by s l room h (decLe (length l) room)
 
-replies-cut : (s : Registers) (ls : List (List ℕ)) (room : ℕ) → 4244 < room → repliesTo s (cutTo room ls) ≡ repliesTo s ls
+replies-cut : (s : Registers) (ls : List (List ℕ)) (room : ℕ) → longestLine < room → repliesTo s (cutTo room ls) ≡ repliesTo s ls
 replies-cut s [] room h = refl
 replies-cut s (l ∷ ls) room h = rw (told-cut s l room h, replies-cut (toldOf s l .after) ls room h)
 
@@ -103,7 +104,7 @@ module _ (t : Told) (o : List ℕ) (w : ℕ) (h : w ≤ length o) where
 
 module _ (p : List ℕ) where
   goes-by : (rest : List ℕ) (b i : ℕ) (s : Registers) (d : List ℕ) (n : ℕ) (o : List ℕ) (w : ℕ) (r u v : Bool)
-      → ltb (length o - w) 195 ≡ r → eqb b 0x0a ≡ u → ltb n (length d) ≡ v
+      → ltb (length o - w) replyRoom ≡ r → eqb b 0x0a ≡ u → ltb n (length d) ≡ v
       → drop i p ≡ b ∷ rest → w ≤ length o → n ≤ length d
       → ((s : Registers) (e : List ℕ) (k : ℕ) (q : List ℕ) (x : ℕ) → x ≤ length q → k ≤ length e
       → Goes p (servedFrom rest (i + 1) s e k q x) rest (i + 1) s e k q x)
@@ -125,7 +126,7 @@ module _ (p : List ℕ) where
       })
   goes-by rest b i s d n o w false true v er eu ev e h k ih =
       let t : Told = answerAt s (take n d) o w in
-      let same : t ≡ toldOf s (take n d) = with-room s (take n d) (length o - w) (ltb-false (length o - w) 195 er) in
+      let same : t ≡ toldOf s (take n d) = with-room s (take n d) (length o - w) (ltb-false (length o - w) replyRoom er) in
       let long = reply-long t o w h in
       let g = ih (t .after) d 0 (outAfter t o w) (w + length (replyLine t)) (omega arith) (omega arith) in
       rw (er, eu) (record {
@@ -198,23 +199,23 @@ module _ (p : List ℕ) where
       }
   goes (b ∷ rest) i e s d n o w h k =
       let f : drop (i + 1) p ≡ rest = sym (drop-drop 1 i p) ∙ ap (λ (x : List ℕ). drop 1 x) e in
-      goes-by rest b i s d n o w (ltb (length o - w) 195) (eqb b 0x0a) (ltb n (length d)) refl refl refl e h k (goes rest (i + 1) f)
+      goes-by rest b i s d n o w (ltb (length o - w) replyRoom) (eqb b 0x0a) (ltb n (length d)) refl refl refl e h k (goes rest (i + 1) f)
 
 -- with bytes left and room for a reply it takes a byte or more
-module _ (p : List ℕ) (s : Registers) (d : List ℕ) (n : ℕ) (o : List ℕ) (h : 195 ≤ length o) (k : n ≤ length d) where
+module _ (p : List ℕ) (s : Registers) (d : List ℕ) (n : ℕ) (o : List ℕ) (h : replyRoom ≤ length o) (k : n ≤ length d) where
   onward-by : (rest : List ℕ) (b i : ℕ) (u v : Bool) → eqb b 0x0a ≡ u → ltb n (length d) ≡ v → drop (i + 1) p ≡ rest
       → i < servedFrom (b ∷ rest) i s d n o 0 .next
   onward-by rest b i true v eu ev e =
       let t : Told = answerAt s (take n d) o 0 in
       let long = reply-long t o 0 (omega arith) in
       let g = goes p rest (i + 1) e (t .after) d 0 (outAfter t o 0) (0 + length (replyLine t)) (omega arith) (omega arith) in
-      rw (le-ltb (length o - 0) 195 (omega arith), eu) (omega (arith, g .from))
+      rw (le-ltb (length o - 0) replyRoom (omega arith), eu) (omega (arith, g .from))
   onward-by rest b i false true eu ev e =
       let g = goes p rest (i + 1) e s (set d n b) (n + 1) o 0 (omega arith) (rw (length-set d n b) (omega (arith, ltb-true))) in
-      rw (le-ltb (length o - 0) 195 (omega arith), eu, ev) (omega (arith, g .from))
+      rw (le-ltb (length o - 0) replyRoom (omega arith), eu, ev) (omega (arith, g .from))
   onward-by rest b i false false eu ev e =
       let g = goes p rest (i + 1) e s d n o 0 (omega arith) k in
-      rw (le-ltb (length o - 0) 195 (omega arith), eu, ev) (omega (arith, g .from))
+      rw (le-ltb (length o - 0) replyRoom (omega arith), eu, ev) (omega (arith, g .from))
 
   onward-in : (rest : List ℕ) (i : ℕ) → drop i p ≡ rest → i < length p → i < servedFrom rest i s d n o 0 .next
   onward-in [] i e l = let z = length-drop i p in let f = ap length e in absurd (omega arith)
@@ -241,12 +242,12 @@ module _ (s : Registers) (p : List ℕ) (at : ℕ) (d : List ℕ) (n : ℕ) (o :
   call-goes : Goes p (servedOf s p at d n o) (drop at p) at s d (min n (length d)) o 0
   call-goes = goes p (drop at p) at refl s d (min n (length d)) o 0 (omega arith) (omega arith)
 
-  onward : at < length p → 195 ≤ length o → at < servedOf s p at d n o .next
+  onward : at < length p → replyRoom ≤ length o → at < servedOf s p at d n o .next
   onward h r = onward-in p s d (min n (length d)) o r (omega arith) (drop at p) at refl h
 
   -- what the program's loop needs of it: it goes on in the piece, and what is to be written stands in the output
   module _ (r : Served) (line out : List ℕ) (e : ServedAs (servedOf s p at d n o) r line out) where
-    pub served-onward : at < length p → 195 ≤ length o → at < r .next
+    pub served-onward : at < length p → replyRoom ≤ length o → at < r .next
     served-onward h k =
         let f : r .next ≡ servedOf s p at d n o .next = ap (λ (x : Served). x .next) (e .returned) in
         omega (arith, onward h k)
@@ -290,7 +291,7 @@ last-length s [] room = refl
 last-length s (x ∷ l) room = refl
 
 -- what it writes is the reply to what is held, if anything is
-last-answered : (s : Registers) (l : List ℕ) (room : ℕ) → 195 ≤ room → lastReply s l room ≡ repliesTo s (lastOf l)
+last-answered : (s : Registers) (l : List ℕ) (room : ℕ) → replyRoom ≤ room → lastReply s l room ≡ repliesTo s (lastOf l)
 last-answered s [] room r = refl
 last-answered s (x ∷ l) room r = ap replyLine (with-room s (x ∷ l) room r) ∙ sym (append-nil (replyLine (toldOf s (x ∷ l))))
 
@@ -306,7 +307,7 @@ module _ (s : Registers) (l out : List ℕ) (a : Answered) (out′ : List ℕ) (
       let n : length out′ ≡ length reply + (length out - length reply) = ap length (e .left) ∙ simp (length-append, length-drop) in
       omega (arith, finish-length)
 
-  pub finish-bytes : 195 ≤ length out → take (a .length) out′ ≡ repliesTo s (lastOf l)
+  pub finish-bytes : replyRoom ≤ length out → take (a .length) out′ ≡ repliesTo s (lastOf l)
   finish-bytes r =
       rw (e .left) (take-at reply (drop (length reply) out) (a .length) (sym finish-length)) ∙ last-answered s l (length out) r
 
@@ -317,17 +318,17 @@ record Turns (t : Turned) (rest : List ℕ) (s : Registers) (d : List ℕ) (n : 
   regs : t .registers ≡ registersAfter s (foundIn rest d n)
   space : t .line ≡ spaceLeft rest d n
   held : t .held ≡ heldLeft rest d n
-  room : 195 ≤ length (t .out)
+  room : replyRoom ≤ length (t .out)
   fits : t .held ≤ length (t .line)
 
-turns-none : (rest : List ℕ) (s : Registers) (d : List ℕ) (n : ℕ) (o : List ℕ) → rest ≡ [] → n ≤ length d → 195 ≤ length o
+turns-none : (rest : List ℕ) (s : Registers) (d : List ℕ) (n : ℕ) (o : List ℕ) → rest ≡ [] → n ≤ length d → replyRoom ≤ length o
     → Turns (record { registers = s; line = d; held = n; out = o; wrote = [] }) rest s d n
 turns-none rest s d n o e h r =
     record { bytes = rw e; regs = rw e; space = rw e; held = rw e; room = r; fits = h }
 
 turns-by : (k : ℕ) (p : List ℕ) (at : ℕ) (s : Registers) (d : List ℕ) (n : ℕ) (o : List ℕ) (b : Bool) → ltb at (length p) ≡ b
-    → length p - at ≤ suc k → n ≤ length d → 195 ≤ length o
-    → ((i : ℕ) (s : Registers) (e : List ℕ) (m : ℕ) (q : List ℕ) → length p - i ≤ k → m ≤ length e → 195 ≤ length q
+    → length p - at ≤ suc k → n ≤ length d → replyRoom ≤ length o
+    → ((i : ℕ) (s : Registers) (e : List ℕ) (m : ℕ) (q : List ℕ) → length p - i ≤ k → m ≤ length e → replyRoom ≤ length q
     → Turns (pieceFrom k p i s e m q) (drop i p) s e m)
     → Turns (pieceFrom (suc k) p at s d n o) (drop at p) s d n
 turns-by k p at s d n o false e l h r ih =
@@ -349,7 +350,7 @@ turns-by k p at s d n o true e l h r ih =
     })
 
 turns : (k : ℕ) (p : List ℕ) (at : ℕ) (s : Registers) (d : List ℕ) (n : ℕ) (o : List ℕ)
-    → length p - at ≤ k → n ≤ length d → 195 ≤ length o → Turns (pieceFrom k p at s d n o) (drop at p) s d n
+    → length p - at ≤ k → n ≤ length d → replyRoom ≤ length o → Turns (pieceFrom k p at s d n o) (drop at p) s d n
 turns zero p at s d n o l h r = turns-none (drop at p) s d n o (drop-of-length-le p {i = at} (omega arith)) h r
 turns (suc k) p at s d n o l h r = turns-by k p at s d n o (ltb at (length p)) refl l h r (turns k p)
 
@@ -369,7 +370,7 @@ last-by d n (x ∷ l) false e h f =
     let y : length (take n d) ≡ suc (length l) = ap length f in
     absurd (omega (arith, ltb-false))
 
-all-found : (ps : List (List ℕ)) (s : Registers) (d : List ℕ) (n : ℕ) (o : List ℕ) → n ≤ length d → 195 ≤ length o
+all-found : (ps : List (List ℕ)) (s : Registers) (d : List ℕ) (n : ℕ) (o : List ℕ) → n ≤ length d → replyRoom ≤ length o
     → writtenFor ps s d n o ≡ repliesTo s (foundInAll ps d n)
 all-found [] s d n o h r =
     let reply = lastReply s (take n d) (length o) in

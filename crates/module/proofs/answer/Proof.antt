@@ -5,6 +5,7 @@ use native.Mathlib.Omega.{arith}
 use lib.ListN.{length, length-map}
 use Rattle.sha256.specs.Hash.{sha256}
 use Rattle.paper.specs.Module.{Told, answerTo, spaceAfter}
+use Rattle.paper.specs.Refusals.{replyRoom}
 use Rattle.module.specs.declared.Answered.{Answered}
 use Rattle.module.specs.Answering.{answeredOf}
 use Rattle.module.proofs.Laws.{without-room, with-room, not-15, said-short, written-after, length-after}
@@ -23,7 +24,7 @@ part-write-reply-end c =
     let a = c .before .before .before .before .before .before .before .args in
     let o = c .before .before .before .answer-line in
     let long = sym (length-map (o .result .reply) _) ∙ o .ok .1 .1 .1 .0 .1 .0 .1 in
-    omega (arith, said-short (answerTo sha256 (a .r) (a .line .now) 195) (o .result) (o .ensures) long, long)
+    omega (arith, said-short (answerTo sha256 (a .r) (a .line .now) replyRoom) (o .result) (o .ensures) long, long)
 
 returns-2 : tie.Need-returns-2
 returns-2 c =
@@ -32,8 +33,8 @@ returns-2 c =
     let d = a .reply .now in
     let o = c .before .before .before .before .before .before .before .before .answer-line in
     let long = sym (length-map (o .result .reply) _) ∙ o .ok .1 .1 .1 .0 .1 .0 .1 in
-    let room : 195 ≤ length d = c .before .before .before .before .before .before .before .before .before .if1 .left in
-    let t = answerTo sha256 (a .r) l 195 in
+    let room : replyRoom ≤ length d = c .before .before .before .before .before .before .before .before .before .if1 .left in
+    let t = answerTo sha256 (a .r) l replyRoom in
     let wrote = c .before .before .write-reply .ensures in
     let n = length-after t (o .result) (o .ensures) long d room (not-15 (a .r) l) _ (wrote .0) in
     let left = written-after t (o .result) (o .ensures) long d room (not-15 (a .r) l) _ (wrote .1) in

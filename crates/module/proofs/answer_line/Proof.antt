@@ -6,6 +6,7 @@ use native.Mathlib.Omega.{arith}
 use lib.ListN.{take, replicate}
 use Rattle.sha256.specs.Hash.{sha256}
 use Rattle.paper.specs.Module.{answerFrame}
+use Rattle.paper.specs.Refusals.{longestFrame}
 use Rattle.lines.specs.Reading.{frameAfter}
 use Rattle.replies.specs.Outcomes.{outcomeOf}
 use Rattle.module.proofs.Laws.{line-refused, line-read, framed}
@@ -35,8 +36,8 @@ returns-2 c =
     let n = c .before .before .before .before .got .given .0 .1 .0 in
     let got = c .before .before .before .before .got .given .1 in
     let found = line-read (a .r) l _ _ (sym got ∙ read .ensures .0) in
-    let here = read .ensures .1 ∙ ap (λ o. frameAfter o l (replicate 2122 0)) got in
-    let frame = ap (take (n - 0)) here ∙ framed (a .r) l (replicate 2122 0) n (found .0) in
+    let here = read .ensures .1 ∙ ap (λ o. frameAfter o l (replicate longestFrame 0)) got in
+    let frame = ap (take (n - 0)) here ∙ framed (a .r) l (replicate longestFrame 0) n (found .0) in
     c .answer .ensures ∙ ap (λ (f : List ℕ). outcomeOf (answerFrame sha256 (a .r) f)) frame ∙ ap outcomeOf (found .2)
 
 pub answer-line-spec : {M : Type 1} → statement M
