@@ -3,8 +3,10 @@
 use fields::byte_at;
 use fields::digest_at;
 use fields::number_at;
+use paper::BEFORE_SIBLINGS;
 use paper::Item;
 use paper::Kilograms;
+use paper::MOST_SIBLINGS;
 use paper::Millimetres;
 use paper::Record;
 use paper::Registers;
@@ -53,14 +55,14 @@ fn values_at(f: &[u8], at: usize) -> Values
 }
 
 // The n siblings of a path over the front of the array.
-fn siblings(f: &[u8], n: usize) -> [[u8; 32]; 64]
+fn siblings(f: &[u8], n: usize) -> [[u8; 32]; MOST_SIBLINGS]
     requires { ⌜ n ≤ 64 ⌝ }
     ensures { λ r. ⌜ take n r ≡ digestsIn n (bytesAt (now (f .entry)) 74 (32 * n)) ⌝ }
 {
-    let mut out = [[0u8; 32]; 64];
+    let mut out = [[0u8; 32]; MOST_SIBLINGS];
     let mut i: usize = 0;
     while i < n {
-        let d = digest_at(f, 74 + 32 * i);
+        let d = digest_at(f, BEFORE_SIBLINGS + 32 * i);
         out[i] = d;
         i += 1;
     }

@@ -1,6 +1,7 @@
 // The program: lines in on standard input, one reply line for each on standard output.
 // Replies go out together, and all of them before more input is waited for. `session` has the work and its law: what is
 // written, however the input arrives, is the replies to its lines (specs/Program.antt there follows the loops here).
+use paper::LONGEST_LINE;
 use paper::Registers;
 ghost use Prim.Native.Nat.{_<_, _≤_};
 ghost use lib.ListN.{length};
@@ -110,8 +111,8 @@ fn run(input: &mut [u8], line: &mut [u8], kept: &mut [u8], out: &mut [u8])
 // The line's space has a byte more than the longest line, so that a longer one shows.
 fn main() {
     let mut input = io::large_buffer();
-    let mut line = [0u8; 4245];
-    let mut kept = [0u8; 4245];
+    let mut line = [0u8; LONGEST_LINE + 1];
+    let mut kept = [0u8; LONGEST_LINE + 1];
     let mut out = io::large_buffer();
     run(&mut input, &mut line, &mut kept, &mut out);
 }

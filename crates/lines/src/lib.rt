@@ -1,4 +1,7 @@
 // Document 01's lines: read into frames, written from them, and the lines of replies.
+use paper::BEFORE_SIBLINGS;
+use paper::LONGEST_FRAME;
+use paper::LONGEST_LINE;
 ghost use mathlib.Core.Path.{_≡_};
 ghost use mathlib.Core.List.{[], _∷_};
 ghost use Prim.Native.Nat.{_/_, _^_, _≤_};
@@ -56,7 +59,7 @@ fn bad_line(line: &[u8]) -> bool
     if line.len() % 2 == 1 {
         return true;
     }
-    if 4244 < line.len() {
+    if LONGEST_LINE < line.len() {
         return true;
     }
     !hex::all_digits(line)
@@ -89,7 +92,7 @@ fn path_fits(size: usize, n: u8, sides: u64) -> bool
     if 64 < n {
         return false;
     }
-    if size != 74 + 32 * (n as usize) {
+    if size != BEFORE_SIBLINGS + 32 * (n as usize) {
         return false;
     }
     sides_fit(n, sides)
@@ -178,7 +181,7 @@ pub fn write_frame(frame: &[u8], line: &mut [u8]) -> Wrote
     if n == 0 {
         return Wrote::Rejected(1);
     }
-    if 2122 < n {
+    if LONGEST_FRAME < n {
         return Wrote::Rejected(1);
     }
     let number = frame_refusal(frame);

@@ -8,6 +8,7 @@ use paper::Record;
 use paper::Registers;
 use paper::Revision;
 use paper::Rigging;
+use paper::TOP;
 use paper::Values;
 use replies::Outcome;
 ghost use mathlib.Core.Path.{_≡_};
@@ -145,7 +146,7 @@ pub fn set_record(
         return replies::refuse(r, 5, 0);
     }
     let c = r.counter;
-    if c.0 == 18446744073709551615 {
+    if c.0 == TOP {
         return replies::refuse(r, 7, 0);
     }
     let cn = c.0 + 1;
@@ -211,7 +212,7 @@ pub fn clear_record(
         return replies::refuse(r, 11, 0);
     }
     let count = r.counter;
-    if count.0 == 18446744073709551615 {
+    if count.0 == TOP {
         return replies::refuse(r, 7, 0);
     }
     let cn = count.0 + 1;

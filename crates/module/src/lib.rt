@@ -1,5 +1,7 @@
 // The module: a line in, a reply line out.
 use lines::Read;
+use paper::LONGEST_FRAME;
+use paper::REPLY_ROOM;
 use paper::Registers;
 use replies::Outcome;
 ghost use mathlib.Core.Path.{_≡_};
@@ -42,7 +44,7 @@ fn number(got: Read) -> u8
 fn answer_line(r: Registers, line: &[u8]) -> Outcome
     ensures { λ o. ⌜ o ≡ outcomeOf (answerTo sha256 r (now (line .entry)) replyRoom) ⌝ }
 {
-    let mut frame = [0u8; 2122];
+    let mut frame = [0u8; LONGEST_FRAME];
     let got = lines::read_line(line, &mut frame);
     let Read::Frame(_, n) = got else {
         return replies::refuse(r, number(got), 0);
@@ -54,7 +56,7 @@ fn answer_line(r: Registers, line: &[u8]) -> Outcome
 pub fn answer(r: Registers, line: &[u8], reply: &mut [u8]) -> Answered
     ensures { λ o. ⌜ Promised r (now (line .entry)) (now (reply .entry)) o (now (reply .exit)) ⌝ }
 {
-    if reply.len() < 195 {
+    if reply.len() < REPLY_ROOM {
         return Answered {
             registers: r,
             refused: 15,

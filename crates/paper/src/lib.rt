@@ -1,5 +1,20 @@
-// Document 01 as types. The definitions over them are in specs/, which is the text to believe; there is no
+// Document 01 as types and numbers. The definitions over them are in specs/, which is the text to believe; there is no
 // code here.
+
+// "Up to 64 siblings"; a path's frame before them; "the longest frame has 2,122 bytes, so 4,244 digits"; the space that every reply
+// fits; "c at 2^64 - 1". The definitions' names for them are `mostSiblings`, `beforeSiblings`, `longestFrame`, `longestLine`,
+// `replyRoom` and `top`; contracts hold the code to those.
+pub const MOST_SIBLINGS: usize = 64;
+
+pub const BEFORE_SIBLINGS: usize = 74;
+
+pub const LONGEST_FRAME: usize = 2122;
+
+pub const LONGEST_LINE: usize = 4244;
+
+pub const REPLY_ROOM: usize = 195;
+
+pub const TOP: u64 = 18446744073709551615;
 
 // "Item numbers, revisions and kilograms must not be mixed up": a type for each kind of number.
 pub struct Item(pub u64);

@@ -1,6 +1,7 @@
 // A session: lines in, reply lines out, on registers that go by value from line to line.
 // A program that is given its input in pieces calls `serve` on each until it is used up, and `finish` at the end.
 use module::Answered;
+use paper::REPLY_ROOM;
 use paper::Registers;
 use paper::Revision;
 use pieces::Cut;
@@ -65,7 +66,7 @@ pub fn serve(
     let mut n = smaller(held, line.len());
     let mut written: usize = 0;
     while next < piece.len() {
-        if out.len() - written < 195 {
+        if out.len() - written < REPLY_ROOM {
             return Served {
                 registers,
                 next,

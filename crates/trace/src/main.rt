@@ -1,5 +1,7 @@
 // A program for tests: it answers lines as `knotcinder` does, and behind each reply stand, in decimal, the number of its
 // refusal, 0 where there is none, and the SHA-256 blocks worked. One line at a time: its speed is nobody's concern.
+use paper::LONGEST_LINE;
+use paper::REPLY_ROOM;
 use paper::Registers;
 use pieces::Cut;
 ghost use Prim.Native.Nat.{_≤_};
@@ -26,7 +28,7 @@ fn print_reply(reply: &[u8], n: usize, refused: u8, blocks: u64) {
 }
 
 fn answer_line(r: Registers, line: &[u8]) -> Registers {
-    let mut reply = [0u8; 195];
+    let mut reply = [0u8; REPLY_ROOM];
     let a = module::answer(r, line, &mut reply);
     print_reply(&reply, a.length, a.refused, a.blocks);
     a.registers
@@ -34,7 +36,7 @@ fn answer_line(r: Registers, line: &[u8]) -> Registers {
 
 // A last line without 0A, if anything is held of one.
 fn end(r: Registers, line: &[u8], held: usize) {
-    let mut reply = [0u8; 195];
+    let mut reply = [0u8; REPLY_ROOM];
     let a = session::finish(r, line, held, &mut reply);
     print_reply(&reply, a.length, a.refused, a.blocks);
 }
@@ -85,6 +87,6 @@ fn run(input: &mut [u8], line: &mut [u8]) {
 
 fn main() {
     let mut input = io::large_buffer();
-    let mut line = [0u8; 4245];
+    let mut line = [0u8; LONGEST_LINE + 1];
     run(&mut input, &mut line);
 }

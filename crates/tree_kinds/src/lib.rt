@@ -1,6 +1,7 @@
 // Kinds 01 to 05: what stands above what in the tree. Each function answers one request that was read already, on
 // registers by value.
 use digests::Digest;
+use paper::MOST_SIBLINGS;
 use paper::Registers;
 use replies::Outcome;
 ghost use mathlib.Core.Path.{_≡_};
@@ -25,7 +26,7 @@ fn level(u: [u8; 32], s: [u8; 32], bit: u64) -> Digest
 }
 
 // The first n siblings folded level by level, the lowest first.
-fn fold(x: [u8; 32], siblings: [[u8; 32]; 64], n: usize, sides: u64) -> Digest
+fn fold(x: [u8; 32], siblings: [[u8; 32]; MOST_SIBLINGS], n: usize, sides: u64) -> Digest
     requires { ⌜ n ≤ 64 ⌝ }
     ensures { λ d. ⌜ (d ≡ worked (S.foldUp sha256 x sides (take n siblings)) (S.foldForms sha256 x sides (take n siblings)))
         × (d .blocks ≤ 128) ⌝ }
@@ -64,7 +65,7 @@ fn path_of(
     xn: [u8; 32],
     n: usize,
     sides: u64,
-    siblings: [[u8; 32]; 64],
+    siblings: [[u8; 32]; MOST_SIBLINGS],
 ) -> Outcome
     requires { ⌜ n ≤ 64 ⌝ }
     ensures { λ o. ⌜ o ≡ outcome r 1 (Q.path x xn sides (take n siblings)) ⌝ }
@@ -90,7 +91,7 @@ pub fn path(
     xn: [u8; 32],
     n: usize,
     sides: u64,
-    siblings: [[u8; 32]; 64],
+    siblings: [[u8; 32]; MOST_SIBLINGS],
 ) -> Outcome
     ensures { λ o. ⌜ o ≡ outcome r 1 (Q.path x xn sides (take n siblings)) ⌝ }
 {
