@@ -128,7 +128,8 @@ written-reads f d e n b w room =
 bytes-good : (l : List ℕ) → Digits l → isWritable (bytesOf l) .fails ≡ false
 bytes-good l g =
     let n = bytes-length l in
-    rw (ne-eqb (length (bytesOf l)) 0 (λ e. g .some (omega (arith, g .even))), le-ltb longestFrame (length (bytesOf l)) (omega (arith, g .short)))
+    let short = le-ltb longestFrame (length (bytesOf l)) (omega (arith, g .short)) in
+    rw (ne-eqb (length (bytesOf l)) 0 (λ e. g .some (omega (arith, g .even))), short)
 
 pub read-writes : ReadWrites
 unfolding lineOf

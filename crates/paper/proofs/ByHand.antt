@@ -133,4 +133,13 @@ unfolding isDigit valueOf digitOf lineOf kinds known fits requestOf be64 answerT
 run D = refl and refl and refl and refl and refl and refl and refl and refl and refl and tt
 
 pub by-hand : ByHand
-by-hand = record { rows = rows; gap-of-one = gap-of-one; path = path-of-64; path-reaches = path-reaches; room = room; edges = edges; run = run }
+by-hand =
+    record {
+      rows = rows;
+      gap-of-one = gap-of-one;
+      path = path-of-64;
+      path-reaches = path-reaches;
+      room = room;
+      edges = edges;
+      run = run;
+    }

@@ -178,7 +178,8 @@ module _ (D : List ℕ → Dig) (D32 : (l : List ℕ) → length (D l) ≡ 32) (
 
   -- a question whose root and memorandum fit is answered by the finding that it asks for
   reply : (q A A′ : ℕ) (r : Record) (s : Registers) → s .opened ≡ true → length (s .root) ≡ 32 → Bytes (s .root)
-      → InEightBytes q → InEightBytes A → InEightBytes A′ → RecordFits r → eqb q 0 ≡ false → eqb A 0 ≡ false → eqb A′ 0 ≡ false → malformed r ≡ false
+      → InEightBytes q → InEightBytes A → InEightBytes A′ → RecordFits r
+      → eqb q 0 ≡ false → eqb A 0 ≡ false → eqb A′ 0 ≡ false → malformed r ≡ false
       → either (eqb q A) (inGap q A A′) ≡ true
       → (let m = memorandum D (v1 (digest D (leafOf D A A′ r)) (s .root)) (s .secret) in
       answerTo D s (digitsOf (frame q A A′ r (s .root ++ m))) replyRoom .says ≡ 0x8e ∷ findingBytes (findingOf q A A′ r))

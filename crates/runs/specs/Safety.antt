@@ -48,8 +48,8 @@ module _ (D : List ℕ → Dig) where
   TrueFinding q (Empty A) l = (q ≡ A .0) × Listed (A .0) emptyRecord l
   TrueFinding q (Gap A A′) l = (inGap q (A .0) (A′ .0) ≡ true) × Unlisted q l × Neighbours (A .0) (A′ .0) l
 
-  -- An accepted question and its reply, as bytes: the line's frame f and what the reply says. An ask is answered by 8e and a finding, and nothing more, that is true of q; an ask of none by 8f and q,
-  -- where nothing is listed.
+  -- An accepted question and its reply, as bytes: the line's frame f and what the reply says. An ask is answered by 8e and a
+  -- finding, and nothing more, that is true of q; an ask of none by 8f and q, where nothing is listed.
   pub record TrueAnswer (f says : List ℕ) (l : Items) : Type 0 where
     pub ask : kindOf f ≡ 0x0e
         → (says ≡ 0x8e ∷ findingBytes (findingIn (drop 1 says))) × TrueFinding (questionIn f) (findingIn (drop 1 says)) l
