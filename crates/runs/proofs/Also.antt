@@ -17,7 +17,7 @@ use Rattle.rings.proofs.Endings.{fault-shows}
 use Rattle.rings.proofs.InPaper.{same-list}
 use Rattle.runs.specs.Run.{Issue, standsFor, isIssued, issuedBy, toldAt, after}
 use Rattle.runs.specs.Safety.{SafeOrEnded}
-use Rattle.runs.specs.Also.{onwards, RootSettlesList, NoOtherWayOut, HonestReplayed, EarliestStays, MemorandaMean, AlsoFor, Also}
+use Rattle.runs.specs.Also.{onwards, NothingToShow, RootSettlesList, NoOtherWayOut, HonestReplayed, EarliestStays, MemorandaMean, AlsoFor, Also}
 use Rattle.runs.proofs.Formed.{well-at, well-append}
 use Rattle.runs.proofs.Sides.{side}
 use Rattle.runs.proofs.Runs.{run, stands-of, safety}
@@ -79,6 +79,12 @@ honest-replayed D D32 k ts us T x g =
     sorted-out (inl (inr b)) = inr (inl b)
     sorted-out (inr c) = inr (inr c)
 
+-- ── things shown ──
+
+nothing-to-show : (D : List ℕ → Dig) → NothingToShow D
+nothing-to-show D tells nonzero F (inl c) = c .differ (tells _ _ (c .agree))
+nothing-to-show D tells nonzero F (inr z) = nonzero _ (z .zero-digest)
+
 -- ── what the memoranda mean ──
 
 memoranda-mean : (D : List ℕ → Dig) → ((l : List ℕ) → length (D l) ≡ 32) → MemorandaMean D
@@ -89,6 +95,7 @@ memoranda-mean D D32 k ts = do
 also-for : (D : List ℕ → Dig) → ((l : List ℕ) → length (D l) ≡ 32) → AlsoFor D
 also-for D D32 =
     record {
+      nothing-to-show = nothing-to-show D;
       root-settles = root-settles D D32;
       readings-agree = readings-agree D D32;
       ending-is = ending-is D;

@@ -10,7 +10,7 @@ use Prim.Native.Nat.{ℕ, _-_, _≤_, _<_}
 use lib.ListN.{length, drop}
 use Rattle.sha256.specs.Hash.{sha256}
 use Rattle.hex.specs.Hex.{bytesOf}
-use Rattle.paper.specs.Strings.{Dig, Memo, Str, memo, digest}
+use Rattle.paper.specs.Strings.{Dig, nought, Memo, Str, memo, digest}
 use Rattle.paper.specs.Requests.{kindOf}
 use Rattle.paper.specs.Collisions.{Collision}
 use Rattle.rings.specs.Trees.{Tree}
@@ -36,6 +36,11 @@ module _ (D : List ℕ → Dig) where
   -- two different strings with one digest among some, or one whose digest is all zero
   abbrev pub Shown : List Str → Type 0
   Shown F = Collision D F ⊎ ZeroDigest D F
+
+  -- A thing shown is a thing: of a digest that tells every string from every other and is never zero nothing can be shown.
+  abbrev pub NothingToShow : Type 0
+  NothingToShow =
+      ((a b : List ℕ) → D a ≡ D b → a ≡ b) → ((l : List ℕ) → D l ≡ nought → ⊥) → (F : List Str) → Shown F → ⊥
 
   -- two runs with one root have one list, or one of them has ended, or among the strings that they formed something can be
   -- shown
@@ -132,6 +137,7 @@ module _ (D : List ℕ → Dig) where
   MemorandaMean = (k : Dig) (ts : List Turn) → Ending D k ts ⊎ AllBacked (after D k ts .formed) (after D k ts .book)
 
   pub record AlsoFor : Type 0 where
+    pub nothing-to-show : NothingToShow
     pub root-settles : RootSettlesList
     pub readings-agree : ReadingsAgree
     pub ending-is : EndingIs
