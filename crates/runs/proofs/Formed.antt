@@ -8,15 +8,15 @@ use native.Mathlib.Omega.{arith}
 use borrow.Author.Tests.{eqb-false}
 use lib.Dec.{eqb}
 use lib.ListN.{length}
-use Rattle.seqs.specs.Choose.{pick, either, opposite, _and_}
+use Rattle.seqs.specs.Choose.{pick, either, _and_}
 use Rattle.seqs.specs.Bytes.{same, allZero}
 use Rattle.paper.specs.declared.Record.{Record}
 use Rattle.paper.specs.declared.Values.{Values}
 use Rattle.paper.specs.declared.Registers.{Registers}
-use Rattle.paper.specs.Strings.{Dig, nought, Memo, u1, v1, u2, ei, Str, leaf, node, entry, memo, enc, digest, memorandum, memorandumForms, WellFormed, blank, malformed, recordForms, parentForms, H, up, upForms, foldUp, foldForms}
+use Rattle.paper.specs.Strings.{Dig, nought, Memo, u1, v1, u2, ei, Str, leaf, node, entry, memo, enc, digest, memorandum, memorandumForms, WellFormed, blank, recordForms, parentForms, H, up, upForms, foldUp, foldForms}
 use Rattle.paper.specs.Requests as Q
 use Rattle.paper.specs.Requests.{Request}
-use Rattle.paper.specs.Refusals.{Check, top, nextRecord, clearedRecord, placeForms, placeSays, tried, leafOf, leafForms, changeForms, changeSays, needs, those, formsAll, applies, formedAt, Verdict, refused, passed, formedBy, judge}
+use Rattle.paper.specs.Refusals.{Check, top, nextRecord, clearedRecord, placeForms, placeSays, tried, leafOf, leafForms, changeForms, changeSays, needs, those, formsAll, applies, formedAt, Verdict, refused, passed, formedBy, judge, numbersBefore}
 use Rattle.paper.specs.Answers.{answer}
 use Rattle.paper.specs.Module.{Told, told}
 use Rattle.rings.proofs.Bridge.{record-32, parent-32}
@@ -146,19 +146,28 @@ module _ (D : List ℕ → Dig) (D32 : (l : List ℕ) → length (D l) ≡ 32) w
       by-tests false true = refl
       by-tests false false = refl
 
+  -- numbers whose checks form nothing
+  abbrev Formless : List ℕ → List Check → Type 0
+  Formless [] cs = Unit {0}
+  Formless (n ∷ ns) cs = (formedAt n cs ≡ []) × Formless ns cs
+
+  -- behind such numbers a check of one more applies
+  stopped : (s : Registers) (kind : ℕ) (q : Request) (ns : List ℕ) (n : ℕ) (rest : List ℕ) (cs : List Check) → Formless ns cs
+      → formedAt n cs ≡ [] → applies n cs ≡ true → told D s kind q (judge (ns ++ (n ∷ rest)) [] cs) .formed ≡ []
+  stopped s kind q [] n rest cs f g a = rw (a, g) refl
+  stopped s kind q (i ∷ ns) n rest cs f g a = rw (f .0) (step (applies i cs) (stopped s kind q ns n rest cs (f .1) g a))
+    where
+      step : (b : Bool) → told D s kind q (judge (ns ++ (n ∷ rest)) [] cs) .formed ≡ []
+          → told D s kind q (pick b (refused i []) (judge (ns ++ (n ∷ rest)) [] cs)) .formed ≡ []
+      step true h = refl
+      step false h = h
+
   at-top : (s : Registers) (kind A A′ : ℕ) (old : Record) (v : Values) (y y′ m : Dig) → eqb (s .counter .0) top ≡ true
       → answered s kind (Q.setTo A A′ old v y y′ m) .formed ≡ []
-  at-top s kind A A′ old v y y′ m h = rw h (by-tests (s .opened) (eqb A 0) (eqb A′ 0) (malformed old))
-    where
-      by-tests : (o a b f : Bool)
-          → told D s kind (Q.setTo A A′ old v y y′ m)
-          (pick (either (opposite o) false) (refused 13 [])
-          (pick (either a (either b false)) (refused 4 []) (pick (either f false) (refused 5 []) (refused 7 [])))) .formed ≡ []
-      by-tests false a b f = refl
-      by-tests true true b f = refl
-      by-tests true false true f = refl
-      by-tests true false false true = refl
-      by-tests true false false false = refl
+  at-top s kind A A′ old v y y′ m h =
+      let q = Q.setTo A A′ old v y y′ m in
+      stopped s kind q (numbersBefore 7 late) 7 (8 ∷ 9 ∷ 10 ∷ []) (needs D s q)
+      (refl and refl and refl and refl and refl and refl and refl and tt) refl (rw h refl)
 
   -- Else a module that is not open refuses by 13, before it forms any; and with a secret of 32 bytes all that the checks form
   -- is well formed.
