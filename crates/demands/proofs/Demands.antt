@@ -24,13 +24,13 @@ use Rattle.lines.proofs.RoundTrip.{written-reads, read-writes, one-line}
 use Rattle.module.specs.declared.Answered.{Answered}
 use Rattle.module.specs.Answering.{answeredOf}
 use Rattle.module.proofs.Follows.{refusal-is-first, refusal-keeps, only-the-reply, reply-fits, under-the-ceiling, older-memorandum, opens, refusing-breaks}
-use Rattle.runs.specs.Run.{Turn, after}
+use Rattle.runs.specs.Run.{after}
 use Rattle.runs.proofs.Runs.{safety}
 use Rattle.runs.proofs.Live.{liveness}
 use Rattle.runs.proofs.Also.{also}
 use Rattle.session.specs.Replies.{toldOf, registersAfter}
 use Rattle.session.proofs.Whole.{registers-append}
-use Rattle.demands.specs.Demands.{Call, standing, Kept, turnsOf, OneReply, First, AsDefined, Second, RepliedAlong, Holds, ByValue, InPlace, MeetsByValue, MeetsInPlace, Input, callsByValue, callsInPlace, spaced, inOrder, Third, Demands}
+use Rattle.demands.specs.Demands.{Call, standing, Kept, turnsOf, OneReply, AsDefined, RepliedAlong, Holds, ByValue, InPlace, MeetsByValue, MeetsInPlace, Input, callsByValue, callsInPlace, spaced, inOrder, Demands}
 
 -- ── one call ──
 

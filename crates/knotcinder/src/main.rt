@@ -5,6 +5,7 @@ use paper::LONGEST_LINE;
 use paper::Registers;
 ghost use Prim.Native.Nat.{_<_, _≤_};
 ghost use lib.ListN.{length};
+ghost use Rattle.paper.specs.Refusals.{longestLine, replyRoom};
 ghost use Rattle.knotcinder.specs.Loop.{Due, Standing, Through};
 
 // What a piece of input left: the registers, how many bytes are held of a line, and whether its replies could be written.
@@ -34,8 +35,8 @@ fn serve_piece(
     kept: &mut [u8],
     out: &mut [u8],
 ) -> Left
-    requires { ⌜ (held ≤ length (now line)) × (4244 < length (now line)) × (length (now line) ≤ length (now kept))
-        × (195 ≤ length (now out)) ⌝ }
+    requires { ⌜ (held ≤ length (now line)) × (longestLine < length (now line)) × (length (now line) ≤ length (now kept))
+        × (replyRoom ≤ length (now out)) ⌝ }
     requires { ⌜ Standing r (now line) held ⌝ }
     ensures { λ o. ⌜ Through r (now (piece .entry)) (now (line .entry)) held o (now (line .exit)) ⌝ }
 {
@@ -68,7 +69,7 @@ fn serve_piece(
 
 // Answers a last line without 0A, if anything is held of one, "as if 0A followed".
 fn end(r: Registers, line: &[u8], held: usize, out: &mut [u8])
-    requires { ⌜ (held ≤ length (now line)) × (4244 < length (now line)) × (195 ≤ length (now out)) ⌝ }
+    requires { ⌜ (held ≤ length (now line)) × (longestLine < length (now line)) × (replyRoom ≤ length (now out)) ⌝ }
     requires { ⌜ Standing r (now line) held ⌝ }
 {
     let a = session::finish(r, line, held, out);
@@ -82,7 +83,7 @@ fn end(r: Registers, line: &[u8], held: usize, out: &mut [u8])
 // nobody knows how that line goes on.
 // A proved loop has to end, and nothing says that input does: the turns are counted down from a number that no run uses up.
 fn run(input: &mut [u8], line: &mut [u8], kept: &mut [u8], out: &mut [u8])
-    requires { ⌜ (4244 < length (now line)) × (length (now line) ≤ length (now kept)) × (195 ≤ length (now out)) ⌝ }
+    requires { ⌜ (longestLine < length (now line)) × (length (now line) ≤ length (now kept)) × (replyRoom ≤ length (now out)) ⌝ }
 {
     let mut registers = session::fresh();
     let mut held: usize = 0;

@@ -17,7 +17,6 @@ use Rattle.sha256.proofs.Digests.{sha256-length}
 use Rattle.hex.specs.Hex.{bytesOf, lineOf}
 use Rattle.hex.proofs.Laws.{bytes-length, line-length}
 use Rattle.paper.specs.declared.Registers.{Registers}
-use Rattle.paper.specs.Requests as Q
 use Rattle.paper.specs.Requests.{kindOf, requestOf}
 use Rattle.paper.specs.Refusals.{isHex, Verdict, refused, judge, longestFrame, longestLine, replyRoom}
 use Rattle.paper.specs.Module.{refusalOf, frameChecks, readRefusal, Told, told, answerFrame, answerTo, replyLine, spaceAfter}

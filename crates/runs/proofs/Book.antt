@@ -1,14 +1,14 @@
 -- The book of a run: each memorandum in it is the digest of a string that was formed, and what that string says is so.
 use mathlib.Core.Path.{_≡_, refl, sym, subst, _∙_}
 use mathlib.Core.Bool.{Bool, true, false}
-use mathlib.Core.List.{List, [], _∷_, _++_, append-nil, List·Memᴰ·head}
+use mathlib.Core.List.{List, [], _∷_, _++_, append-nil}
 use mathlib.Core.Logic.{_⊎_, inl, inr}
 use Prim.Native.Nat.{ℕ}
 use Rattle.seqs.specs.Choose.{pick, either}
 use Rattle.seqs.specs.Bytes.{same, same-true}
-use Rattle.paper.specs.Strings.{Dig, Memo, Str, memo, digest, memorandum, memorandumForms}
+use Rattle.paper.specs.Strings.{Dig, Memo, Str, digest, memorandum, memorandumForms}
 use Rattle.rings.specs.Changes.{Step}
-use Rattle.rings.specs.Meanings.{_∈_, Within, Fault, Means}
+use Rattle.rings.specs.Meanings.{Within, Fault, Means}
 use Rattle.rings.proofs.Nodes.{_>>=_, instead}
 use Rattle.rings.proofs.Memos.{means-more, same-memorandum}
 use Rattle.runs.specs.Also.{Backed, AllBacked}
@@ -19,14 +19,11 @@ entered-none earliest b = append-nil b
 entered-none last b = refl
 
 module _ (D : List ℕ → Dig) where
-  -- an entry by the strings of its memorandum, and those strings of it
+  -- an entry by the strings of its memorandum
   pub entry-by : {F : List Str} (t : Memo) (k : Dig) (c : List Step) → Within (memorandumForms D t k) F → Means (digest D) F t c
       → Backed D F (record { memorandum = memorandum D t k; does = c })
   entry-by t k c i m =
-      record { says = t; key = k; formed = i _ (List·Memᴰ·head refl); memorandum-is = refl; means = m }
-
-  strings-of : {F : List Str} {i : Issue} (e : Backed D F i) → Within (memorandumForms D (e .says) (e .key)) F
-  strings-of {F} e x (List·Memᴰ·head p) = subst (λ (y : Str). y ∈ F) (sym p) (e .formed)
+      record { says = t; key = k; formed = i; memorandum-is = refl; means = m }
 
   pub book-more : {F G : List Str} (b : List Issue) → Within F G → AllBacked D F b → AllBacked D G b
   book-more [] s h = tt
@@ -37,7 +34,7 @@ module _ (D : List ℕ → Dig) where
           record {
             says = e .says;
             key = e .key;
-            formed = s (memo (e .says) (e .key)) (e .formed);
+            formed = λ x j. s x (e .formed x j);
             memorandum-is = e .memorandum-is;
             means = means-more (digest D) (e .says) (i .does) s (e .means);
           }
@@ -62,7 +59,7 @@ module _ (D : List ℕ → Dig) where
       hit : j .memorandum ≡ m → (Fault (digest D) F ⊎ (true ≡ false)) ⊎ Means (digest D) F t (j .does)
       hit p = do
         q ← instead inl
-            (same-memorandum D (h .0 .says) t (h .0 .key) k (strings-of (h .0)) i (h .0 .memorandum-is ∙ p ∙ sym e))
+            (same-memorandum D (h .0 .says) t (h .0 .key) k (h .0 .formed) i (h .0 .memorandum-is ∙ p ∙ sym e))
         inr (subst (λ (u : Memo). Means (digest D) F u (j .does)) (q .0) (h .0 .means))
 
       here : (c : Bool) → same (j .memorandum) m ≡ c

@@ -10,12 +10,12 @@ use Prim.Native.Nat.{ℕ, _-_, _≤_, _<_}
 use lib.ListN.{length, drop}
 use Rattle.sha256.specs.Hash.{sha256}
 use Rattle.hex.specs.Hex.{bytesOf}
-use Rattle.paper.specs.Strings.{Dig, nought, Memo, Str, memo, digest}
+use Rattle.paper.specs.Strings.{Dig, nought, Memo, Str, digest, memorandum, memorandumForms}
 use Rattle.paper.specs.Requests.{kindOf}
 use Rattle.paper.specs.Collisions.{Collision}
 use Rattle.rings.specs.Trees.{Tree}
 use Rattle.rings.specs.Endings.{ZeroDigest}
-use Rattle.rings.specs.Meanings.{_∈_, Means}
+use Rattle.rings.specs.Meanings.{Within, Means}
 use Rattle.runs.specs.Run.{Turn, Items, Issue, standsFor, isIssued, World, toldAt, after}
 use Rattle.runs.specs.Endings.{Forged, Ending}
 use Rattle.runs.specs.Safety.{Stands, Safe}
@@ -120,13 +120,13 @@ module _ (D : List ℕ → Dig) where
   abbrev pub BookGrows : Type 0
   BookGrows = (k : Dig) (ts : List Turn) (t : Turn) → Entered (after D k ts) t (after D k (t ∷ ts) .book)
 
-  -- Every memorandum issued so far means what it says: it is the digest of a string that was formed, of what it says and a secret,
-  -- and that is so by the strings formed, an EI standing for what the line that issued it does; or the run has ended.
+  -- Every memorandum issued so far means what it says: it was made of what it says and a secret, its strings were formed, and what
+  -- it says is so by the strings formed, an EI standing for what the line that issued it does; or the run has ended.
   pub record Backed (F : List Str) (i : Issue) : Type 0 where
     pub says : Memo
     pub key : Dig
-    pub formed : memo says key ∈ F
-    pub memorandum-is : digest D (memo says key) ≡ i .memorandum
+    pub formed : Within (memorandumForms D says key) F
+    pub memorandum-is : memorandum D says key ≡ i .memorandum
     pub means : Means (digest D) F says (i .does)
 
   abbrev pub AllBacked : List Str → List Issue → Type 0

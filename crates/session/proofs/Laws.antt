@@ -10,12 +10,11 @@ use lib.Dec.{eqb, ltb}
 use lib.ListN.{length, take, drop, set, length-append, length-take, length-set, length-drop, drop-of-length-le}
 use lib.Seq.{take-all, take-length, drop-length, drop-drop}
 use Rattle.seqs.specs.Choose.{pick}
-use Rattle.sha256.specs.Hash.{sha256}
 use Rattle.pieces.specs.declared.Cut.{Cut}
 use Rattle.pieces.specs.declared.Cut.the-variants.{Line, More}
 use Rattle.pieces.specs.Cutting.{cutOf, spaceOf}
 use Rattle.paper.specs.declared.Registers.{Registers}
-use Rattle.paper.specs.Module.{answerTo, replyLine}
+use Rattle.paper.specs.Module.{replyLine}
 use Rattle.paper.specs.Refusals.{replyRoom}
 use Rattle.module.specs.declared.Answered.{Answered}
 use Rattle.module.specs.Laws.{Promised}

@@ -4,7 +4,7 @@ use Rattle.seqs.specs.Bytes.{digestAt}
 use Rattle.paper.specs.Requests as Q
 use Rattle.replies.specs.Outcomes.{outcome}
 use Rattle.kernel.specs.Places.{bytesAt, requestAt}
-use Rattle.kernel.proofs.Places.{free, number-there}
+use Rattle.kernel.proofs.Places.{free}
 use borrow.Author.Needs.{needs}
 use Rattle.kernel.proofs.set_record.Statement.{statement}
 use Rattle.kernel.proofs.set_record.Tie as tie

@@ -5,6 +5,7 @@ use Prim.Native.Nat.{_<_, _≤_}
 use native.Mathlib.Omega.{arith}
 use lib.ListN.{length}
 use borrow.Author.Needs.{needs}
+use Rattle.paper.specs.Refusals.{longestLine, replyRoom}
 use Rattle.knotcinder.specs.Loop.{Standing}
 use Rattle.knotcinder.proofs.Laws.{standing-first, standing-next}
 use Rattle.knotcinder.proofs.run.Statement.{statement}
@@ -13,9 +14,9 @@ use Rattle.knotcinder.proofs.run.Tie as tie
 abbrev Inv-loop : tie.InvT-loop
 Inv-loop input₀ line₀ kept₀ out₀ registers₀ held₀ turns₀ input line kept out registers held turns =
     (held ≤ length line)
-    × (4244 < length line)
+    × (longestLine < length line)
     × (length line ≤ length kept)
-    × (195 ≤ length out)
+    × (replyRoom ≤ length out)
     × (length input ≡ length input₀)
     × (length line ≡ length line₀)
     × (length kept ≡ length kept₀)

@@ -6,6 +6,7 @@ use Prim.Native.Nat.{ℕ, _-_, _<_, _≤_}
 use native.Mathlib.Omega.{arith}
 use lib.ListN.{length, drop}
 use borrow.Author.Needs.{needs}
+use Rattle.paper.specs.Refusals.{longestLine, replyRoom}
 use Rattle.session.proofs.Whole.{Rest, rest-start, rest-then, served-onward, served-upto, served-within, served-part, served-leads, served-rest}
 use Rattle.knotcinder.specs.Loop.{Reached}
 use Rattle.knotcinder.proofs.Laws.{through, stopped, standing-reached, reached-next, due-served}
@@ -15,11 +16,11 @@ use Rattle.knotcinder.proofs.serve_piece.Tie as tie
 abbrev Inv-loop : tie.InvT-loop
 Inv-loop piece line₀ held kept₀ out₀ registers₀ at₀ n₀ line kept out registers at n =
     (length line ≡ length line₀)
-    × (4244 < length line)
+    × (longestLine < length line)
     × (length kept ≡ length kept₀)
     × (length line ≤ length kept)
     × (length out ≡ length out₀)
-    × (195 ≤ length out)
+    × (replyRoom ≤ length out)
     × Rest piece registers₀ line₀ held (drop at piece) registers line n
     × Reached registers
 
