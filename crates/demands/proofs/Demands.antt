@@ -60,6 +60,16 @@ as-defined : AsDefined
 as-defined s line space after o p =
     (ap (λ (x : Answered). x .registers) (p .returned), p .left, ap (λ (x : Answered). x .blocks) (p .returned))
 
+-- the function that the contract describes meets it
+as-said : ByValue
+as-said s line space =
+    let t = answerTo sha256 s line (length space) in
+    (answeredOf t, spaceAfter t space)
+
+as-said-meets : MeetsByValue as-said
+unfolding as-said
+as-said-meets s line space = record { returned = refl; left = refl }
+
 -- ── calls one after the other ──
 
 along : (k : Dig) (cs : List Call) → Kept k cs → standing k cs ≡ after sha256 k (turnsOf cs) .registers
@@ -126,6 +136,7 @@ demands =
         read-writes = read-writes;
       };
       demand-3 = record {
+        some-function = (as-said, as-said-meets);
         any-calls = holds;
         by-value = λ m h k is. holds k (callsByValue m k is) (kept-by-value m h k is);
         in-place = λ m h k is. holds k (callsInPlace m k is) (kept-in-place m h k is);

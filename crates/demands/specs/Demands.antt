@@ -160,6 +160,8 @@ inOrder [] = []
 inOrder (l ∷ ls) = inOrder ls ++ (l ∷ [])
 
 pub record Third : Type 0 where
+  -- there is a function that meets the contract, so what follows is of something
+  pub some-function : (m : ByValue) × MeetsByValue m
   -- any calls that each meet the contract
   pub any-calls : (k : Dig) (cs : List Call) → Kept k cs → Holds k cs
   -- so any function that meets it, by value or in place

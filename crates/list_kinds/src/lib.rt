@@ -31,20 +31,11 @@ pub fn unlock(r: Registers, secret: [u8; 32]) -> Outcome
     if fields::is_zero(secret) {
         return replies::refuse(r, 12, 0);
     }
-    let root = r.root;
-    let c = r.counter;
     let nothing = [0u8; 0];
-    replies::accept(
-        Registers {
-            root: root,
-            counter: c,
-            secret: secret,
-            opened: true,
-        },
-        0x90,
-        &nothing,
-        0,
-    )
+    let mut after = r;
+    after.secret = secret;
+    after.opened = true;
+    replies::accept(after, 0x90, &nothing, 0)
 }
 
 // 0b adopt: y is the root and m is EI(y,next); the root becomes next.
@@ -64,18 +55,9 @@ pub fn adopt(r: Registers, y: [u8; 32], next: [u8; 32], m: [u8; 32]) -> Outcome
     if !fields::same_digest(y, held) {
         return replies::refuse(r, 10, due.blocks);
     }
-    let counter = r.counter;
-    replies::accept(
-        Registers {
-            root: next,
-            counter: counter,
-            secret: k,
-            opened: r.opened,
-        },
-        0x8b,
-        &next,
-        due.blocks,
-    )
+    let mut after = r;
+    after.root = next;
+    replies::accept(after, 0x8b, &next, due.blocks)
 }
 
 // What a set or a clear answers: the new root and the new counter.
@@ -169,18 +151,12 @@ pub fn set_record(
     if !fields::same_digest(y, root) {
         return replies::refuse(r, 10, u.blocks);
     }
-    let says = root_and_counter(yn, Revision(cn));
-    replies::accept(
-        Registers {
-            root: yn,
-            counter: Revision(cn),
-            secret: k,
-            opened: r.opened,
-        },
-        0x8c,
-        &says,
-        u.blocks,
-    )
+    let raised = Revision(cn);
+    let says = root_and_counter(yn, raised);
+    let mut after = r;
+    after.root = yn;
+    after.counter = raised;
+    replies::accept(after, 0x8c, &says, u.blocks)
 }
 
 // 0d clear: y is the root and m is U1 of the leaf whose record becomes empty; the root becomes `cleared` and the
@@ -232,16 +208,10 @@ pub fn clear_record(
     if !fields::same_digest(y, root) {
         return replies::refuse(r, 10, u.blocks);
     }
-    let says = root_and_counter(cleared, Revision(cn));
-    replies::accept(
-        Registers {
-            root: cleared,
-            counter: Revision(cn),
-            secret: k,
-            opened: r.opened,
-        },
-        0x8d,
-        &says,
-        u.blocks,
-    )
+    let raised = Revision(cn);
+    let says = root_and_counter(cleared, raised);
+    let mut after = r;
+    after.root = cleared;
+    after.counter = raised;
+    replies::accept(after, 0x8d, &says, u.blocks)
 }

@@ -49,7 +49,7 @@ returns-3 c =
 
 returns-4 : tie.Need-returns-4
 returns-4 c =
-    let b = c .before .before .before in
+    let b = c .before .before in
     let start = b .before .before .before .before .before .before .before .before .before .before in
     c .accept .ensures ∙ answers (current b) refl (omega arith) (omega (arith, start .good .1 .1 .0 .1 .0 .1))
 

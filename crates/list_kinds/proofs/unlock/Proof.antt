@@ -27,7 +27,7 @@ returns-2 c =
     c .refuse2 .ensures ∙ refuses (unopened (b .before)) (sym (b .is-zero .ensures) ∙ c .before .if2 .taken)
 
 returns-3 : tie.Need-returns-3
-returns-3 c = c .accept .ensures ∙ answers (secret (c .before .before .before .before)) refl refl (omega arith)
+returns-3 c = c .accept .ensures ∙ answers (secret (c .before .before)) refl refl (omega arith)
 
 pub unlock-spec : {M : Type 1} → statement M
 unlock-spec =
