@@ -1,14 +1,14 @@
-// Document 01's digests (leaf, parent, record hash and the memoranda), each with the count of blocks that it took; and
-// its tests on numbers, the gap and the malformed record.
+// Document 01's digests: leaf, parent, record hash and the memoranda, each with the count of blocks that it took.
 use paper::Item;
 use paper::Record;
 ghost use mathlib.Core.Path.{_≡_};
-ghost use mathlib.Core.List.{_∷_, _++_};
 ghost use Prim.Native.Nat.{_≤_};
 ghost use lib.ListN.{length};
 ghost use Rattle.sha256.specs.Hash.{sha256};
 ghost use Rattle.paper.specs.Strings as S;
+ghost use Rattle.paper.specs.Refusals.{leafOf, leafForms};
 ghost use Rattle.digests.specs.Worked.{worked, hashed};
+ghost use Rattle.digests.specs.Speaking.{AllWhole, SaidAs, Spoken, MadeOf};
 
 // A digest, and the blocks worked for it.
 pub struct Digest {
@@ -16,69 +16,41 @@ pub struct Digest {
     pub blocks: u64,
 }
 
-fn two(a: [u8; 32], b: [u8; 32]) -> [u8; 64]
-    ensures { λ r. ⌜ r ≡ a ++ b ⌝ }
-{
-    let mut s = [0u8; 64];
-    fields::put(&mut s, 0, &a);
-    fields::put(&mut s, 32, &b);
-    s
+// What a memorandum says: its tag and its digests over the front of an array, and how many bytes these are. The array has room
+// for the secret behind as many bytes as the length can tell, so that a memorandum can be made of any such value.
+pub struct Says {
+    pub bytes: [u8; 287],
+    pub length: u8,
 }
 
-fn four(a: [u8; 32], b: [u8; 32], c: [u8; 32], d: [u8; 32]) -> [u8; 128]
-    ensures { λ r. ⌜ r ≡ (a ++ b) ++ (c ++ d) ⌝ }
+fn said(tag: u8, parts: &[[u8; 32]]) -> Says
+    requires { ⌜ (length (now parts) ≤ 6) × AllWhole (now parts) ⌝ }
+    ensures { λ s. ⌜ SaidAs s tag (now (parts .entry)) ⌝ }
 {
-    let mut s = [0u8; 128];
-    let ab = two(a, b);
-    let cd = two(c, d);
-    fields::put(&mut s, 0, &ab);
-    fields::put(&mut s, 64, &cd);
-    s
-}
-
-fn six(a: [u8; 32], b: [u8; 32], c: [u8; 32], d: [u8; 32], e: [u8; 32], f: [u8; 32]) -> [u8; 192]
-    ensures { λ r. ⌜ r ≡ ((a ++ b) ++ (c ++ d)) ++ (e ++ f) ⌝ }
-{
-    let mut s = [0u8; 192];
-    let abcd = four(a, b, c, d);
-    let ef = two(e, f);
-    fields::put(&mut s, 0, &abcd);
-    fields::put(&mut s, 128, &ef);
-    s
-}
-
-// How a memorandum is made of its tag, what it says and the secret: here and nowhere else.
-fn memorandum(tag: u8, says: &[u8], secret: [u8; 32]) -> [u8; 32]
-    requires { ⌜ length (now says) ≤ 192 ⌝ }
-    ensures { λ r. ⌜ r ≡ sha256 (tag ∷ (now (says .entry) ++ secret)) ⌝ }
-{
-    let n = says.len();
-    let mut s = [0u8; 225];
-    s[0] = tag;
-    fields::put(&mut s, 1, says);
-    fields::put(&mut s, 1 + n, &secret);
-    let end = n + 33;
-    sha256::digest(&s[0..end])
-}
-
-pub fn u1(x: [u8; 32], y: [u8; 32], x2: [u8; 32], y2: [u8; 32], secret: [u8; 32]) -> Digest
-    ensures { λ r. ⌜ r ≡ hashed (S.memo (S.u1 x y x2 y2) secret) ⌝ }
-{
-    let says = four(x, y, x2, y2);
-    Digest {
-        bytes: memorandum(0x04, &says, secret),
-        blocks: 3,
+    let mut bytes = [0u8; 287];
+    bytes[0] = tag;
+    let mut i: usize = 0;
+    while i < parts.len() {
+        let d = parts[i];
+        fields::put(&mut bytes, 1 + 32 * i, &d);
+        i += 1;
+    }
+    Says {
+        bytes: bytes,
+        length: (1 + 32 * i) as u8,
     }
 }
 
-pub fn v1(x: [u8; 32], y: [u8; 32], secret: [u8; 32]) -> Digest
-    ensures { λ r. ⌜ r ≡ hashed (S.memo (S.v1 x y) secret) ⌝ }
+pub fn u1(x: [u8; 32], y: [u8; 32], x2: [u8; 32], y2: [u8; 32]) -> Says
+    ensures { λ s. ⌜ Spoken s (S.u1 x y x2 y2) ⌝ }
 {
-    let says = two(x, y);
-    Digest {
-        bytes: memorandum(0x05, &says, secret),
-        blocks: 2,
-    }
+    said(0x04, &[x, y, x2, y2])
+}
+
+pub fn v1(x: [u8; 32], y: [u8; 32]) -> Says
+    ensures { λ s. ⌜ Spoken s (S.v1 x y) ⌝ }
+{
+    said(0x05, &[x, y])
 }
 
 pub fn u2(
@@ -88,24 +60,29 @@ pub fn u2(
     x1n: [u8; 32],
     x2n: [u8; 32],
     yn: [u8; 32],
-    secret: [u8; 32],
-) -> Digest
-    ensures { λ r. ⌜ r ≡ hashed (S.memo (S.u2 x1 x2 y x1n x2n yn) secret) ⌝ }
+) -> Says
+    ensures { λ s. ⌜ Spoken s (S.u2 x1 x2 y x1n x2n yn) ⌝ }
 {
-    let says = six(x1, x2, y, x1n, x2n, yn);
-    Digest {
-        bytes: memorandum(0x06, &says, secret),
-        blocks: 4,
-    }
+    said(0x06, &[x1, x2, y, x1n, x2n, yn])
 }
 
-pub fn ei(y: [u8; 32], yn: [u8; 32], secret: [u8; 32]) -> Digest
-    ensures { λ r. ⌜ r ≡ hashed (S.memo (S.ei y yn) secret) ⌝ }
+pub fn ei(y: [u8; 32], yn: [u8; 32]) -> Says
+    ensures { λ s. ⌜ Spoken s (S.ei y yn) ⌝ }
 {
-    let says = two(y, yn);
+    said(0x07, &[y, yn])
+}
+
+// How a memorandum is made of what it says and the secret: here and nowhere else.
+pub fn memorandum(s: Says, secret: [u8; 32]) -> Digest
+    ensures { λ d. ⌜ MadeOf s secret d ⌝ }
+{
+    let n = s.length as usize;
+    let mut bytes = s.bytes;
+    fields::put(&mut bytes, n, &secret);
+    let end = n + 32;
     Digest {
-        bytes: memorandum(0x07, &says, secret),
-        blocks: 2,
+        bytes: sha256::digest(&bytes[0..end]),
+        blocks: sha256::blocks(end) as u64,
     }
 }
 
@@ -141,52 +118,25 @@ pub fn parent(u: [u8; 32], v: [u8; 32]) -> Digest
         };
     }
     let mut s = [2u8; 65];
-    let uv = two(u, v);
-    fields::put(&mut s, 1, &uv);
+    fields::put(&mut s, 1, &u);
+    fields::put(&mut s, 33, &v);
     Digest {
         bytes: sha256::digest(&s),
         blocks: 2,
     }
 }
 
-pub fn is_blank(r: Record) -> bool
-    ensures { λ b. ⌜ b ≡ S.blank r ⌝ }
-{
-    let v = r.revision;
-    v.0 == 0
-}
-
-// A record's four numbers, one behind the other.
-pub fn record_bytes(r: Record) -> [u8; 32]
-    ensures { λ b. ⌜ b ≡ S.spread (S.nums (S.numbers r)) ⌝ }
-{
-    let v = r.revision;
-    let m = r.mass;
-    let o = r.offset;
-    let g = r.rigging;
-    let mut s = [0u8; 32];
-    let n1 = fields::spelled(v.0);
-    let n2 = fields::spelled(m.0);
-    let n3 = fields::spelled(o.0);
-    let n4 = fields::spelled(g.0);
-    fields::put(&mut s, 0, &n1);
-    fields::put(&mut s, 8, &n2);
-    fields::put(&mut s, 16, &n3);
-    fields::put(&mut s, 24, &n4);
-    s
-}
-
 pub fn record_hash(r: Record) -> Digest
     ensures { λ d. ⌜ d ≡ worked (S.recordHash sha256 r) (S.recordForms r) ⌝ }
 {
-    if is_blank(r) {
+    if records::is_blank(r) {
         return Digest {
             bytes: [0u8; 32],
             blocks: 0,
         };
     }
     let mut s = [3u8; 33];
-    let n = record_bytes(r);
+    let n = records::record_bytes(r);
     fields::put(&mut s, 1, &n);
     Digest {
         bytes: sha256::digest(&s),
@@ -194,39 +144,16 @@ pub fn record_hash(r: Record) -> Digest
     }
 }
 
-pub fn is_malformed(r: Record) -> bool
-    ensures { λ b. ⌜ b ≡ S.malformed r ⌝ }
+// The leaf of a and b with a record, and all that is formed for it.
+pub fn leaf_of(a: Item, b: Item, rec: Record) -> Digest
+    ensures { λ d. ⌜ d ≡ worked (S.digest sha256 (leafOf sha256 (a .0) (b .0) rec)) (leafForms sha256 (a .0) (b .0) rec) ⌝ }
 {
-    if is_blank(r) {
-        let m = r.mass;
-        let o = r.offset;
-        let g = r.rigging;
-        if m.0 != 0 {
-            return true;
-        }
-        if o.0 != 0 {
-            return true;
-        }
-        return g.0 != 0;
+    let h = record_hash(rec);
+    let hash = h.bytes;
+    let x = leaf(a, b, hash);
+    let bytes = x.bytes;
+    Digest {
+        bytes: bytes,
+        blocks: h.blocks + x.blocks,
     }
-    false
-}
-
-// Whether q lies in the gap of a and b.
-pub fn in_gap(q: Item, a: Item, b: Item) -> bool
-    ensures { λ r. ⌜ r ≡ S.inGap (q .0) (a .0) (b .0) ⌝ }
-{
-    if a.0 < b.0 {
-        if a.0 < q.0 {
-            return q.0 < b.0;
-        }
-        return false;
-    }
-    if q.0 == 0 {
-        return false;
-    }
-    if a.0 < q.0 {
-        return true;
-    }
-    q.0 < b.0
 }

@@ -1,7 +1,16 @@
-// Kinds 0b to 0d and 10: what changes the module's own root, counter and secret. Each function answers one request that was
-// read already, on registers by value.
-use digests::Digest;
-use paper::Item;
+// Kinds 0b to 0d and 10: what changes the module's own root, counter and secret. Each function answers a frame of its kind, on
+// registers by value.
+use checks::Judged;
+use checks::begin;
+use checks::begin_open;
+use checks::compare;
+use checks::finish;
+use checks::refuse_if;
+use checks::refuse_stale;
+use checks::work;
+use digests::ei;
+use digests::leaf_of;
+use digests::u1;
 use paper::Kilograms;
 use paper::Millimetres;
 use paper::Record;
@@ -10,208 +19,165 @@ use paper::Revision;
 use paper::Rigging;
 use paper::TOP;
 use paper::Values;
+use places::FIELDS;
+use places::NUMBER;
+use places::RECORD;
+use places::VALUES;
+use places::digest;
+use places::item;
+use places::record_at;
+use places::values_at;
 use replies::Outcome;
 ghost use mathlib.Core.Path.{_≡_};
-ghost use mathlib.Core.List.{[], _∷_, _++_};
+ghost use mathlib.Core.List.{[], _++_};
+ghost use Prim.Native.Nat.{_+_};
 ghost use Rattle.seqs.specs.Bytes.{be64};
-ghost use Rattle.sha256.specs.Hash.{sha256};
-ghost use Rattle.paper.specs.Strings as S;
-ghost use Rattle.paper.specs.Requests as Q;
-ghost use Rattle.paper.specs.Refusals.{changeForms, changeSays};
-ghost use Rattle.digests.specs.Worked.{worked};
+ghost use Rattle.paper.specs.Answers.{raised};
 ghost use Rattle.replies.specs.Outcomes.{outcome};
+ghost use Rattle.checks.specs.Steps.{unjudged, Ran, Concludes};
+ghost use Rattle.places.specs.Places.{digestIn, requestAt};
+ghost use Rattle.list_kinds.specs.Changes.{recordAfter, changeBegins, changeEnds};
 
 // 10 open: hands in the secret, once.
-pub fn unlock(r: Registers, secret: [u8; 32]) -> Outcome
-    ensures { λ o. ⌜ o ≡ outcome r 16 (Q.unlock secret) ⌝ }
+pub fn unlock(r: Registers, f: &[u8]) -> Outcome
+    ensures { λ o. ⌜ o ≡ outcome r 16 (requestAt 16 (now (f .entry))) ⌝ }
 {
-    if r.opened {
-        return replies::refuse(r, 14, 0);
-    }
-    if fields::is_zero(secret) {
-        return replies::refuse(r, 12, 0);
-    }
+    let secret = digest(f, FIELDS, 0);
+    let i = refuse_if(begin(), 14, r.opened);
+    let j = refuse_if(i, 12, fields::is_zero(secret));
     let nothing = [0u8; 0];
     let mut after = r;
     after.secret = secret;
     after.opened = true;
-    replies::accept(after, 0x90, &nothing, 0)
+    finish(r, j, 0x90, after, &nothing)
 }
 
-// 0b adopt: y is the root and m is EI(y,next); the root becomes next.
-pub fn adopt(r: Registers, y: [u8; 32], next: [u8; 32], m: [u8; 32]) -> Outcome
-    ensures { λ o. ⌜ o ≡ outcome r 11 (Q.adopt y next m) ⌝ }
+// 0b adopt: y, next, m; m is EI(y,next) and y is the root; the root becomes next.
+pub fn adopt(r: Registers, f: &[u8]) -> Outcome
+    ensures { λ o. ⌜ o ≡ outcome r 11 (requestAt 11 (now (f .entry))) ⌝ }
 {
-    if !r.opened {
-        return replies::refuse(r, 13, 0);
-    }
-    let k = r.secret;
-    let due = digests::ei(y, next, k);
-    let fitting = due.bytes;
-    if !fields::same_digest(fitting, m) {
-        return replies::refuse(r, 8, due.blocks);
-    }
-    let held = r.root;
-    if !fields::same_digest(y, held) {
-        return replies::refuse(r, 10, due.blocks);
-    }
+    let y = digest(f, FIELDS, 0);
+    let next = digest(f, FIELDS, 1);
+    let m = digest(f, FIELDS, 2);
+    let secret = r.secret;
+    let root = r.root;
+    let i = compare(begin_open(r), 8, ei(y, next), secret, m);
+    let j = refuse_stale(i, y, root);
     let mut after = r;
     after.root = next;
-    replies::accept(after, 0x8b, &next, due.blocks)
+    finish(r, j, 0x8b, after, &next)
 }
 
-// What a set or a clear answers: the new root and the new counter.
-fn root_and_counter(yn: [u8; 32], c: Revision) -> [u8; 40]
-    ensures { λ r. ⌜ r ≡ yn ++ be64 (c .0) ⌝ }
+// What a set or a clear leaves.
+enum Change {
+    Set(Values),
+    Clear,
+}
+
+// The record that it leaves; n is the raised counter.
+fn record_after(made: Change, n: u64) -> Record
+    ensures { λ r. ⌜ r ≡ recordAfter made n ⌝ }
+{
+    match made {
+        Change::Set(v) => {
+            let mass = v.mass;
+            let offset = v.offset;
+            let rigging = v.rigging;
+            Record {
+                revision: Revision(n),
+                mass: mass,
+                offset: offset,
+                rigging: rigging,
+            }
+        }
+        Change::Clear => Record {
+            revision: Revision(0),
+            mass: Kilograms(0),
+            offset: Millimetres(0),
+            rigging: Rigging(0),
+        },
+    }
+}
+
+// What a set or a clear answers: the new root and the raised counter.
+fn root_and_counter(yn: [u8; 32], n: u64) -> [u8; 40]
+    ensures { λ r. ⌜ r ≡ yn ++ be64 n ⌝ }
 {
     let mut s = [0u8; 40];
-    let n = fields::spelled(c.0);
+    let c = fields::spelled(n);
     fields::put(&mut s, 0, &yn);
-    fields::put(&mut s, 32, &n);
+    fields::put(&mut s, 32, &c);
     s
 }
 
-// U1 of a leaf whose record changes, with all that is formed for it.
-fn change_memo(
-    secret: [u8; 32],
-    a: Item,
-    b: Item,
-    old: Record,
-    new: Record,
-    y: [u8; 32],
-    yn: [u8; 32],
-) -> Digest
-    ensures { λ d. ⌜ d ≡ worked (S.digest sha256 (S.memo (changeSays sha256 (a .0) (b .0) old new y yn) secret))
-        (changeForms sha256 (a .0) (b .0) old new
-        ++ (S.memo (changeSays sha256 (a .0) (b .0) old new y yn) secret ∷ [])) ⌝ }
+// Behind A and A' both carry the old record.
+const OLD: u16 = FIELDS + 2 * NUMBER;
+
+// The checks that set and clear begin with: 13, 4 on A and A', 5 on the old record.
+fn begin_change(r: Registers, f: &[u8]) -> Judged
+    ensures { λ j. ⌜ Ran unjudged (changeBegins r (now (f .entry))) j ⌝ }
 {
-    let h = digests::record_hash(old);
-    let hb = h.bytes;
-    let x = digests::leaf(a, b, hb);
-    let xb = x.bytes;
-    let hn = digests::record_hash(new);
-    let hnb = hn.bytes;
-    let xn = digests::leaf(a, b, hnb);
-    let xnb = xn.bytes;
-    let u = digests::u1(xb, y, xnb, yn, secret);
-    let ub = u.bytes;
-    Digest {
-        bytes: ub,
-        blocks: h.blocks + x.blocks + hn.blocks + xn.blocks + u.blocks,
-    }
+    let a = item(f, 0);
+    let b = item(f, 1);
+    let i = refuse_if(begin_open(r), 4, a.0 == 0);
+    let j = refuse_if(i, 4, b.0 == 0);
+    refuse_if(j, 5, records::is_malformed(record_at(f, OLD)))
 }
 
-// 0c set: y is the root and m is U1 of the leaf whose record becomes [c+1, v2, v3, v4]; the root becomes y' and the
-// counter c+1.
-pub fn set_record(
-    r: Registers,
-    a: Item,
-    b: Item,
-    old: Record,
-    v: Values,
-    y: [u8; 32],
-    yn: [u8; 32],
-    m: [u8; 32],
-) -> Outcome
-    ensures { λ o. ⌜ o ≡ outcome r 12 (Q.setTo (a .0) (b .0) old v y yn m) ⌝ }
+// Those that they end with, 7, 8 and 10, and their answer. The digests from a place on are y, y' and m: m is U1 of the leaf
+// whose record changes, and y is the root; the root becomes y' and the counter is raised.
+fn changed(r: Registers, f: &[u8], j: Judged, first: u8, from: u16, made: Change) -> Outcome
+    ensures { λ o. ⌜ Concludes r j (changeEnds r (now (f .entry)) from made) first (raised r (digestIn (now (f .entry)) from 1))
+        (digestIn (now (f .entry)) from 1 ++ be64 (r .counter .0 + 1)) [] o ⌝ }
 {
-    if !r.opened {
-        return replies::refuse(r, 13, 0);
-    }
-    if a.0 == 0 {
-        return replies::refuse(r, 4, 0);
-    }
-    if b.0 == 0 {
-        return replies::refuse(r, 4, 0);
-    }
-    if digests::is_malformed(old) {
-        return replies::refuse(r, 5, 0);
-    }
     let c = r.counter;
-    if c.0 == TOP {
-        return replies::refuse(r, 7, 0);
+    let j7 = refuse_if(j, 7, c.0 == TOP);
+    if j7.stopped {
+        return replies::refuse(r, j7.number, j7.blocks);
     }
-    let cn = c.0 + 1;
-    let mass = v.mass;
-    let offset = v.offset;
-    let rigging = v.rigging;
-    let new = Record {
-        revision: Revision(cn),
-        mass: mass,
-        offset: offset,
-        rigging: rigging,
-    };
-    let k = r.secret;
-    let u = change_memo(k, a, b, old, new, y, yn);
-    let ub = u.bytes;
-    if !fields::same_digest(ub, m) {
-        return replies::refuse(r, 8, u.blocks);
-    }
+    let n = c.0 + 1;
+    let a = item(f, 0);
+    let b = item(f, 1);
+    let y = digest(f, from, 0);
+    let yn = digest(f, from, 1);
+    let m = digest(f, from, 2);
+    let l = leaf_of(a, b, record_at(f, OLD));
+    let ln = leaf_of(a, b, record_after(made, n));
+    let x = l.bytes;
+    let xn = ln.bytes;
+    let secret = r.secret;
     let root = r.root;
-    if !fields::same_digest(y, root) {
-        return replies::refuse(r, 10, u.blocks);
-    }
-    let raised = Revision(cn);
-    let says = root_and_counter(yn, raised);
+    let worked = work(work(j7, l.blocks), ln.blocks);
+    let j8 = compare(worked, 8, u1(x, y, xn, yn), secret, m);
+    let j10 = refuse_stale(j8, y, root);
+    let raised = Revision(n);
+    let lists = root_and_counter(yn, n);
     let mut after = r;
     after.root = yn;
     after.counter = raised;
-    replies::accept(after, 0x8c, &says, u.blocks)
+    finish(r, j10, first, after, &lists)
 }
 
-// 0d clear: y is the root and m is U1 of the leaf whose record becomes empty; the root becomes `cleared` and the
-// counter c+1.
-pub fn clear_record(
-    r: Registers,
-    a: Item,
-    b: Item,
-    old: Record,
-    y: [u8; 32],
-    cleared: [u8; 32],
-    m: [u8; 32],
-) -> Outcome
-    ensures { λ o. ⌜ o ≡ outcome r 13 (Q.clear (a .0) (b .0) old y cleared m) ⌝ }
+const SET_VALUES: u16 = OLD + RECORD;
+
+const SET_DIGESTS: u16 = SET_VALUES + VALUES;
+
+// 0c set: A, A', old record, v2, v3, v4, y, y', m; the record becomes [c+1, v2, v3, v4].
+pub fn set_record(r: Registers, f: &[u8]) -> Outcome
+    ensures { λ o. ⌜ o ≡ outcome r 12 (requestAt 12 (now (f .entry))) ⌝ }
 {
-    if !r.opened {
-        return replies::refuse(r, 13, 0);
-    }
-    if a.0 == 0 {
-        return replies::refuse(r, 4, 0);
-    }
-    if b.0 == 0 {
-        return replies::refuse(r, 4, 0);
-    }
-    if digests::is_malformed(old) {
-        return replies::refuse(r, 5, 0);
-    }
-    if digests::is_blank(old) {
-        return replies::refuse(r, 11, 0);
-    }
-    let count = r.counter;
-    if count.0 == TOP {
-        return replies::refuse(r, 7, 0);
-    }
-    let cn = count.0 + 1;
-    let new = Record {
-        revision: Revision(0),
-        mass: Kilograms(0),
-        offset: Millimetres(0),
-        rigging: Rigging(0),
-    };
-    let k = r.secret;
-    let u = change_memo(k, a, b, old, new, y, cleared);
-    let ub = u.bytes;
-    if !fields::same_digest(ub, m) {
-        return replies::refuse(r, 8, u.blocks);
-    }
-    let root = r.root;
-    if !fields::same_digest(y, root) {
-        return replies::refuse(r, 10, u.blocks);
-    }
-    let raised = Revision(cn);
-    let says = root_and_counter(cleared, raised);
-    let mut after = r;
-    after.root = cleared;
-    after.counter = raised;
-    replies::accept(after, 0x8d, &says, u.blocks)
+    let j = begin_change(r, f);
+    let v = values_at(f, SET_VALUES);
+    changed(r, f, j, 0x8c, SET_DIGESTS, Change::Set(v))
+}
+
+const CLEAR_DIGESTS: u16 = OLD + RECORD;
+
+// 0d clear: A, A', old record, y, y', m; the record, which is not empty, becomes so.
+pub fn clear_record(r: Registers, f: &[u8]) -> Outcome
+    ensures { λ o. ⌜ o ≡ outcome r 13 (requestAt 13 (now (f .entry))) ⌝ }
+{
+    let i = begin_change(r, f);
+    let j = refuse_if(i, 11, records::is_blank(record_at(f, OLD)));
+    changed(r, f, j, 0x8d, CLEAR_DIGESTS, Change::Clear)
 }

@@ -14,7 +14,7 @@ use Rattle.paper.specs.declared.Registers.{Registers}
 use Rattle.paper.specs.Strings.{Dig, nought, Memo, u1, v1, u2, ei, Str, leaf, node, entry, cost, blank, recordForms, parentForms, digest, memorandum, memorandumForms, up, upForms, foldForms}
 use Rattle.paper.specs.Requests as Q
 use Rattle.paper.specs.Requests.{Request, kindOf, requestOf}
-use Rattle.paper.specs.Refusals.{Check, order, roomFor, replyRoom, isHex, isKind, isFrame, nextRecord, clearedRecord, tried, first-memo, leafOf, leafForms, changeForms, changeSays, needs, those, formsAll, applies, formedAt, Verdict, refused, passed, formedBy, judge}
+use Rattle.paper.specs.Refusals.{Check, order, requestOrder, roomFor, replyRoom, isHex, isKind, isFrame, nextRecord, clearedRecord, tried, first-memo, leafOf, leafForms, changeForms, changeSays, needs, those, formsAll, applies, formedAt, Verdict, refused, passed, formedBy, judge}
 use Rattle.paper.specs.Answers.{answer}
 use Rattle.paper.specs.Module.{frameChecks, told, answerFrame, answerTo}
 use Rattle.paper.specs.Ceilings.{ceiling, Ceilings}
@@ -161,6 +161,13 @@ module _ (D : List ℕ → Dig) where
       )
   rows s (Q.askNone q) = omega arith
   rows s (Q.unlock k) = omega arith
+
+  -- a request whose frame's own checks are met
+  pub request-cost : (s : Registers) (k : ℕ) (q : Request)
+      → cost (told D s k q (judge requestOrder [] (needs D s q)) .formed) ≤ ceiling q
+  request-cost s k q =
+      let cs : List Check = needs D s q in
+      omega (arith, told-cost s k q (judge requestOrder [] cs), judged requestOrder [] cs, rows s q)
 
   -- ── checks without strings cost nothing ──
 

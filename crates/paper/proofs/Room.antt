@@ -29,7 +29,7 @@ use Rattle.paper.specs.ByHand.{Room}
 
 -- ── digests of at most 32 bytes ──
 
-abbrev Short : Dig → Type 0
+abbrev pub Short : Dig → Type 0
 Short d = length d ≤ 32
 
 abbrev AllShort : List Dig → Type 0
@@ -44,7 +44,7 @@ digests-short zero l = tt
 digests-short (suc n) l = (take-short 32 l, digests-short n (drop 32 l))
 
 -- a digest that is carried, the i-th of the things carried
-abbrev ShortOf : Carried → List ℕ → Type 0
+abbrev pub ShortOf : Carried → List ℕ → Type 0
 ShortOf aNumber l = Unit {0}
 ShortOf aDigest l = Short l
 ShortOf aRecord l = Unit {0}
@@ -58,7 +58,7 @@ short-of aRecord l = tt
 short-of theValues l = tt
 short-of aPath l = tt
 
-abbrev ShortAt : List Carried → ℕ → List ℕ → Type 0
+abbrev pub ShortAt : List Carried → ℕ → List ℕ → Type 0
 ShortAt [] i l = Unit {0}
 ShortAt (c ∷ cs) zero l = ShortOf c l
 ShortAt (c ∷ cs) (suc i) l = ShortAt cs i l
@@ -158,17 +158,18 @@ module _ (D : List ℕ → Dig) (D32 : (l : List ℕ) → length (D l) ≡ 32) w
       and (λ s p h. omega arith)
       and tt
 
-  lists-short : (s : Registers) (f : List ℕ) → length (answer D s (requestOf f) .lists) ≤ 96
-  unfolding requestOf
-  lists-short s f =
-      brief-row kinds _ _ rows (λ s p h. omega arith) s _ (short-parts (rowOf (kindOf f) .carries) (drop 1 f))
+  -- no answer lists more than 96 bytes, whatever kind's row reads the parts
+  pub lists-short : (k : ℕ) (s : Registers) (p : ℕ → List ℕ) → ((i : ℕ) → ShortAt (rowOf k .carries) i (p i))
+      → length (answer D s (rowOf k .reads p) .lists) ≤ 96
+  lists-short k = brief-row kinds _ _ rows (λ s p h. omega arith)
 
   -- ── the reply's line ──
 
   module _ (s : Registers) (f : List ℕ) where
     said-short : (v : Verdict) → length (told D s (kindOf f) (requestOf f) v .says) ≤ 97
+    unfolding requestOf
     said-short (refused n fs) = omega arith
-    said-short (passed fs) = omega (arith, lists-short s f)
+    said-short (passed fs) = omega (arith, lists-short (kindOf f) s _ (short-parts (rowOf (kindOf f) .carries) (drop 1 f)))
 
     line-short : (v : Verdict) → length (replyLine (told D s (kindOf f) (requestOf f) v)) ≤ replyRoom
     line-short v = by-test (eqb (told D s (kindOf f) (requestOf f) v .refusal) 15)

@@ -38,15 +38,25 @@ pub data Str : Type 0 where
 abbrev pub numbers : Record → List ℕ
 numbers r = r .revision .0 ∷ r .mass .0 ∷ r .offset .0 ∷ r .rigging .0 ∷ []
 
+-- what a memorandum says: its tag and its digests
+abbrev pub memoTag : Memo → ℕ
+memoTag (u1 x y x′ y′) = 0x04
+memoTag (v1 x y) = 0x05
+memoTag (u2 x1 x2 y x1′ x2′ y′) = 0x06
+memoTag (ei y y′) = 0x07
+
+abbrev pub memoDigests : Memo → List Dig
+memoDigests (u1 x y x′ y′) = x ∷ y ∷ x′ ∷ y′ ∷ []
+memoDigests (v1 x y) = x ∷ y ∷ []
+memoDigests (u2 x1 x2 y x1′ x2′ y′) = x1 ∷ x2 ∷ y ∷ x1′ ∷ x2′ ∷ y′ ∷ []
+memoDigests (ei y y′) = y ∷ y′ ∷ []
+
 -- "A string is one tag byte and its fields"
 abbrev pub tagOf : Str → ℕ
 tagOf (leaf A A′ ω) = 0x01
 tagOf (node u v) = 0x02
 tagOf (entry r) = 0x03
-tagOf (memo (u1 x y x′ y′) k) = 0x04
-tagOf (memo (v1 x y) k) = 0x05
-tagOf (memo (u2 x1 x2 y x1′ x2′ y′) k) = 0x06
-tagOf (memo (ei y y′) k) = 0x07
+tagOf (memo m k) = memoTag m
 
 -- a field is a number or a digest
 pub data Field : Type 0 where
@@ -58,14 +68,15 @@ abbrev pub nums : List ℕ → List Field
 nums [] = []
 nums (n ∷ l) = num n ∷ nums l
 
+abbrev pub digs : List Dig → List Field
+digs [] = []
+digs (d ∷ l) = dig d ∷ digs l
+
 abbrev pub fieldsOf : Str → List Field
 fieldsOf (leaf A A′ ω) = num A ∷ num A′ ∷ dig ω ∷ []
 fieldsOf (node u v) = dig u ∷ dig v ∷ []
 fieldsOf (entry r) = nums (numbers r)
-fieldsOf (memo (u1 x y x′ y′) k) = dig x ∷ dig y ∷ dig x′ ∷ dig y′ ∷ dig k ∷ []
-fieldsOf (memo (v1 x y) k) = dig x ∷ dig y ∷ dig k ∷ []
-fieldsOf (memo (u2 x1 x2 y x1′ x2′ y′) k) = dig x1 ∷ dig x2 ∷ dig y ∷ dig x1′ ∷ dig x2′ ∷ dig y′ ∷ dig k ∷ []
-fieldsOf (memo (ei y y′) k) = dig y ∷ dig y′ ∷ dig k ∷ []
+fieldsOf (memo m k) = digs (memoDigests m ++ (k ∷ []))
 
 -- "Numbers are 8 bytes, most significant first"; a digest is its 32 bytes
 abbrev pub fieldBytes : Field → List ℕ

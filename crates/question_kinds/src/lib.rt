@@ -1,128 +1,100 @@
-// Kinds 0e and 0f: questions. Each function answers one request that was read already, on registers by value, and changes none.
-use digests::Digest;
+// Kinds 0e and 0f: questions. Each function answers a frame of its kind, on registers by value, and changes none.
+use checks::Judged;
+use checks::begin_open;
+use checks::compare;
+use checks::finish;
+use checks::refuse_if;
+use checks::refuse_stale;
+use checks::refuse_unless;
+use checks::work;
+use digests::v1;
 use paper::Finding;
 use paper::Item;
 use paper::Record;
 use paper::Registers;
+use places::FIELDS;
+use places::NUMBER;
+use places::RECORD;
+use places::digest;
+use places::item;
+use places::record_at;
 use replies::Outcome;
 ghost use mathlib.Core.Path.{_≡_};
-ghost use mathlib.Core.List.{[], _∷_, _++_};
+ghost use mathlib.Core.List.{[]};
 ghost use lib.Dec.{eqb};
 ghost use Rattle.seqs.specs.Choose.{either};
-ghost use Rattle.sha256.specs.Hash.{sha256};
 ghost use Rattle.paper.specs.Strings as S;
-ghost use Rattle.paper.specs.Requests as Q;
-ghost use Rattle.paper.specs.Refusals.{leafOf, leafForms};
 ghost use Rattle.paper.specs.Answers.{findingOf, findingBytes};
-ghost use Rattle.digests.specs.Worked.{worked};
-ghost use Rattle.replies.specs.Outcomes.{outcome, acceptance};
+ghost use Rattle.replies.specs.Outcomes.{outcome};
+ghost use Rattle.checks.specs.Steps.{Finished, Concludes};
+ghost use Rattle.places.specs.Places.{requestAt};
+ghost use Rattle.question_kinds.specs.Questions.{askEnds};
 
-// 0f ask of none: q of an empty list.
-pub fn ask_none(r: Registers, q: Item) -> Outcome
-    ensures { λ o. ⌜ o ≡ outcome r 15 (Q.askNone (q .0)) ⌝ }
+// 0f ask of none: q; the list is empty.
+pub fn ask_none(r: Registers, f: &[u8]) -> Outcome
+    ensures { λ o. ⌜ o ≡ outcome r 15 (requestAt 15 (now (f .entry))) ⌝ }
 {
-    if !r.opened {
-        return replies::refuse(r, 13, 0);
-    }
-    if q.0 == 0 {
-        return replies::refuse(r, 4, 0);
-    }
-    let z = [0u8; 32];
+    let q = item(f, 0);
+    let none = [0u8; 32];
     let root = r.root;
-    if !fields::same_digest(z, root) {
-        return replies::refuse(r, 10, 0);
-    }
+    let i = refuse_if(begin_open(r), 4, q.0 == 0);
+    let j = refuse_stale(i, none, root);
     let n = fields::spelled(q.0);
-    replies::accept(r, 0x8f, &n, 0)
+    finish(r, j, 0x8f, r, &n)
 }
 
-// An ask's reply: exactly one of three findings, and the blocks worked for it.
-struct AskReply {
-    finding: Finding,
-    blocks: u64,
-}
-
-fn find(q: Item, a: Item, b: Item, rec: Record, blocks: u64) -> AskReply
-    ensures { λ o. ⌜ (o .finding ≡ findingOf (q .0) (a .0) (b .0) rec) × (o .blocks ≡ blocks) ⌝ }
+// What the leaf of a, b and a record says of q: exactly one of three findings.
+fn find(q: Item, a: Item, b: Item, rec: Record) -> Finding
+    ensures { λ o. ⌜ o ≡ findingOf (q .0) (a .0) (b .0) rec ⌝ }
 {
     if q.0 == a.0 {
-        if digests::is_blank(rec) {
-            return AskReply {
-                finding: Finding::Listed(a),
-                blocks: blocks,
-            };
+        if records::is_blank(rec) {
+            return Finding::Listed(a);
         }
-        return AskReply {
-            finding: Finding::Recorded(a, rec),
-            blocks: blocks,
-        };
+        return Finding::Recorded(a, rec);
     }
-    AskReply {
-        finding: Finding::Gap(a, b),
-        blocks: blocks,
-    }
+    Finding::Gap(a, b)
 }
 
-fn say_recorded(r: Registers, a: Item, rec: Record, blocks: u64) -> Outcome
-    ensures { λ o. ⌜ o ≡ acceptance r 0x8e (findingBytes (Finding.Recorded a rec)) blocks ⌝ }
+fn say_recorded(r: Registers, j: Judged, a: Item, rec: Record) -> Outcome
+    ensures { λ o. ⌜ Finished r j 0x8e r (findingBytes (Finding.Recorded a rec)) [] o ⌝ }
 {
     let mut s = [1u8; 41];
     let na = fields::spelled(a.0);
-    let nr = digests::record_bytes(rec);
+    let nr = records::record_bytes(rec);
     fields::put(&mut s, 1, &na);
     fields::put(&mut s, 9, &nr);
-    replies::accept(r, 0x8e, &s, blocks)
+    finish(r, j, 0x8e, r, &s)
 }
 
-fn say_listed(r: Registers, a: Item, blocks: u64) -> Outcome
-    ensures { λ o. ⌜ o ≡ acceptance r 0x8e (findingBytes (Finding.Listed a)) blocks ⌝ }
+fn say_listed(r: Registers, j: Judged, a: Item) -> Outcome
+    ensures { λ o. ⌜ Finished r j 0x8e r (findingBytes (Finding.Listed a)) [] o ⌝ }
 {
     let mut s = [2u8; 9];
     let na = fields::spelled(a.0);
     fields::put(&mut s, 1, &na);
-    replies::accept(r, 0x8e, &s, blocks)
+    finish(r, j, 0x8e, r, &s)
 }
 
-fn say_gap(r: Registers, a: Item, b: Item, blocks: u64) -> Outcome
-    ensures { λ o. ⌜ o ≡ acceptance r 0x8e (findingBytes (Finding.Gap a b)) blocks ⌝ }
+fn say_gap(r: Registers, j: Judged, a: Item, b: Item) -> Outcome
+    ensures { λ o. ⌜ Finished r j 0x8e r (findingBytes (Finding.Gap a b)) [] o ⌝ }
 {
     let mut s = [3u8; 17];
     let na = fields::spelled(a.0);
     let nb = fields::spelled(b.0);
     fields::put(&mut s, 1, &na);
     fields::put(&mut s, 9, &nb);
-    replies::accept(r, 0x8e, &s, blocks)
+    finish(r, j, 0x8e, r, &s)
 }
 
-// An ask's reply as its bytes.
-fn say(r: Registers, o: AskReply) -> Outcome
-    ensures { λ s. ⌜ s ≡ acceptance r 0x8e (findingBytes (o .finding)) (o .blocks) ⌝ }
+// Refused by the check that failed, or answered with a finding.
+fn say(r: Registers, j: Judged, found: Finding) -> Outcome
+    ensures { λ o. ⌜ Finished r j 0x8e r (findingBytes found) [] o ⌝ }
 {
-    let blocks = o.blocks;
-    let f = o.finding;
-    match f {
-        Finding::Recorded(a, rec) => say_recorded(r, a, rec, blocks),
-        Finding::Listed(a) => say_listed(r, a, blocks),
-        Finding::Gap(a, b) => say_gap(r, a, b, blocks),
-    }
-}
-
-// V1 of a leaf, with all that is formed for it.
-fn leaf_memo(secret: [u8; 32], a: Item, b: Item, rec: Record, y: [u8; 32]) -> Digest
-    ensures { λ d. ⌜ d ≡ worked
-        (S.digest sha256 (S.memo (S.v1 (S.digest sha256 (leafOf sha256 (a .0) (b .0) rec)) y) secret))
-        (leafForms sha256 (a .0) (b .0) rec
-        ++ (S.memo (S.v1 (S.digest sha256 (leafOf sha256 (a .0) (b .0) rec)) y) secret ∷ [])) ⌝ }
-{
-    let h = digests::record_hash(rec);
-    let hb = h.bytes;
-    let x = digests::leaf(a, b, hb);
-    let xb = x.bytes;
-    let v = digests::v1(xb, y, secret);
-    let vb = v.bytes;
-    Digest {
-        bytes: vb,
-        blocks: h.blocks + x.blocks + v.blocks,
+    match found {
+        Finding::Recorded(a, rec) => say_recorded(r, j, a, rec),
+        Finding::Listed(a) => say_listed(r, j, a),
+        Finding::Gap(a, next) => say_gap(r, j, a, next),
     }
 }
 
@@ -133,12 +105,13 @@ fn meets(q: Item, a: Item, b: Item) -> bool
     if q.0 == a.0 {
         return true;
     }
-    digests::in_gap(q, a, b)
+    records::in_gap(q, a, b)
 }
 
-// 0e ask: y is the root and m is V1 of the leaf; answers what the leaf says of q.
-pub fn ask(
+// Checks 8 and 10 of 0e, and its answer: m is V1 of the leaf, which is worked for it alone, and y is the root.
+fn ask_leaf(
     r: Registers,
+    j: Judged,
     q: Item,
     a: Item,
     b: Item,
@@ -146,36 +119,38 @@ pub fn ask(
     y: [u8; 32],
     m: [u8; 32],
 ) -> Outcome
-    ensures { λ o. ⌜ o ≡ outcome r 14 (Q.ask (q .0) (a .0) (b .0) rec y m) ⌝ }
+    ensures { λ o. ⌜ Concludes r j (askEnds r (a .0) (b .0) rec y m) 0x8e r (findingBytes (findingOf (q .0) (a .0) (b .0) rec)) [] o ⌝ }
 {
-    if !r.opened {
-        return replies::refuse(r, 13, 0);
+    if j.stopped {
+        return replies::refuse(r, j.number, j.blocks);
     }
-    if q.0 == 0 {
-        return replies::refuse(r, 4, 0);
-    }
-    if a.0 == 0 {
-        return replies::refuse(r, 4, 0);
-    }
-    if b.0 == 0 {
-        return replies::refuse(r, 4, 0);
-    }
-    if digests::is_malformed(rec) {
-        return replies::refuse(r, 5, 0);
-    }
-    if !meets(q, a, b) {
-        return replies::refuse(r, 6, 0);
-    }
-    let k = r.secret;
-    let u = leaf_memo(k, a, b, rec, y);
-    let ub = u.bytes;
-    if !fields::same_digest(ub, m) {
-        return replies::refuse(r, 8, u.blocks);
-    }
+    let l = digests::leaf_of(a, b, rec);
+    let x = l.bytes;
+    let secret = r.secret;
     let present = r.root;
-    if !fields::same_digest(y, present) {
-        return replies::refuse(r, 10, u.blocks);
-    }
-    let o = find(q, a, b, rec, u.blocks);
-    say(r, o)
+    let j8 = compare(work(j, l.blocks), 8, v1(x, y), secret, m);
+    let j10 = refuse_stale(j8, y, present);
+    say(r, j10, find(q, a, b, rec))
+}
+
+const ASK_RECORD: u16 = FIELDS + 3 * NUMBER;
+
+const ASK_DIGESTS: u16 = ASK_RECORD + RECORD;
+
+// 0e ask: q, A, A', record, y, m; q is A or in the gap of A and A'; answers what the leaf of A, A' and the record says of q.
+pub fn ask(r: Registers, f: &[u8]) -> Outcome
+    ensures { λ o. ⌜ o ≡ outcome r 14 (requestAt 14 (now (f .entry))) ⌝ }
+{
+    let q = item(f, 0);
+    let a = item(f, 1);
+    let b = item(f, 2);
+    let rec = record_at(f, ASK_RECORD);
+    let y = digest(f, ASK_DIGESTS, 0);
+    let m = digest(f, ASK_DIGESTS, 1);
+    let j1 = refuse_if(begin_open(r), 4, q.0 == 0);
+    let j2 = refuse_if(j1, 4, a.0 == 0);
+    let j3 = refuse_if(j2, 4, b.0 == 0);
+    let j4 = refuse_if(j3, 5, records::is_malformed(rec));
+    let j5 = refuse_unless(j4, 6, meets(q, a, b));
+    ask_leaf(r, j5, q, a, b, rec, y, m)
 }

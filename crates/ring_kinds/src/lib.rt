@@ -1,70 +1,64 @@
-// Kinds 06 to 0a: which roots stand for equally good rings. Each function answers one request that was read already, on
-// registers by value.
+// Kinds 06 to 0a: which roots stand for equally good rings. Each function answers a frame of its kind, on registers by value.
+use checks::Judged;
+use checks::begin_open;
+use checks::compare;
+use checks::compare_either;
+use checks::issue;
+use checks::refuse_if;
+use checks::refuse_unless;
+use checks::work;
+use digests::ei;
+use digests::u2;
 use paper::Item;
 use paper::Registers;
+use places::FIELDS;
+use places::NUMBER;
+use places::digest;
+use places::item;
 use replies::Outcome;
 ghost use mathlib.Core.Path.{_≡_};
-ghost use mathlib.Core.List.{_++_};
-ghost use Rattle.seqs.specs.Choose.{opposite};
 ghost use Rattle.sha256.specs.Hash.{sha256};
-ghost use Rattle.paper.specs.Strings.{cost};
-ghost use Rattle.paper.specs.Refusals.{placeForms, placeSays, noneFits, tried};
-ghost use Rattle.paper.specs.Requests as Q;
+ghost use Rattle.paper.specs.Refusals.{first-memo, placeForms, placeSays};
 ghost use Rattle.replies.specs.Outcomes.{outcome};
+ghost use Rattle.checks.specs.Steps.{Next};
+ghost use Rattle.places.specs.Places.{requestAt};
 
-// 06: m is U2(x1,x2,y,x2,x1,y'); answers EI(y,y').
-pub fn swap(
-    r: Registers,
-    x1: [u8; 32],
-    x2: [u8; 32],
-    y: [u8; 32],
-    yn: [u8; 32],
-    m: [u8; 32],
-) -> Outcome
-    ensures { λ o. ⌜ o ≡ outcome r 6 (Q.swap x1 x2 y yn m) ⌝ }
+// 06: x1, x2, y, y', m; m is U2(x1,x2,y,x2,x1,y'); answers EI(y,y').
+pub fn swap(r: Registers, f: &[u8]) -> Outcome
+    ensures { λ o. ⌜ o ≡ outcome r 6 (requestAt 6 (now (f .entry))) ⌝ }
 {
-    if !r.opened {
-        return replies::refuse(r, 13, 0);
-    }
-    let k = r.secret;
-    let u = digests::u2(x1, x2, y, x2, x1, yn, k);
-    let ub = u.bytes;
-    if !fields::same_digest(ub, m) {
-        return replies::refuse(r, 8, u.blocks);
-    }
-    let e = digests::ei(y, yn, k);
-    let eb = e.bytes;
-    replies::accept(r, 0x86, &eb, u.blocks + e.blocks)
+    let x1 = digest(f, FIELDS, 0);
+    let x2 = digest(f, FIELDS, 1);
+    let y = digest(f, FIELDS, 2);
+    let yn = digest(f, FIELDS, 3);
+    let m = digest(f, FIELDS, 4);
+    let secret = r.secret;
+    let due = u2(x1, x2, y, x2, x1, yn);
+    let j = compare(begin_open(r), 8, due, secret, m);
+    let answer = ei(y, yn);
+    issue(r, j, 0x86, answer)
 }
 
-// 07: answers EI(0,leaf(A,A,0)).
-pub fn first(r: Registers, a: Item) -> Outcome
-    ensures { λ o. ⌜ o ≡ outcome r 7 (Q.first (a .0)) ⌝ }
+// 07: A; answers EI(0,leaf(A,A,0)).
+pub fn first(r: Registers, f: &[u8]) -> Outcome
+    ensures { λ o. ⌜ o ≡ outcome r 7 (requestAt 7 (now (f .entry))) ⌝ }
 {
-    if !r.opened {
-        return replies::refuse(r, 13, 0);
+    let a = item(f, 0);
+    let j = refuse_if(begin_open(r), 4, a.0 == 0);
+    if j.stopped {
+        return replies::refuse(r, j.number, j.blocks);
     }
-    if a.0 == 0 {
-        return replies::refuse(r, 4, 0);
-    }
-    let k = r.secret;
-    let z = [0u8; 32];
-    let l = digests::leaf(a, a, z);
-    let lb = l.bytes;
-    let e = digests::ei(z, lb, k);
-    let eb = e.bytes;
-    replies::accept(r, 0x87, &eb, l.blocks + e.blocks)
+    let none = [0u8; 32];
+    let l = digests::leaf(a, a, none);
+    let only = l.bytes;
+    issue(r, work(j, l.blocks), 0x87, ei(none, only))
 }
 
-// Whether a memorandum fits, and the blocks worked to find out.
-struct Tried {
-    fits: bool,
-    blocks: u64,
-}
-
-// The memorandum of 08 in its two orders, the second tried where the first does not fit.
+// Check 8 of 08: the three leaves are worked for it alone. m may say U2(x1,x2,y,x1',x2',y') or, tried second,
+// U2(x2,x1,y,x2',x1',y'), where x1 is leaf(A,A',w), x1' leaf(A,B',w), x2 leaf(A',B',0) and x2' 0.
 fn place_memo(
-    k: [u8; 32],
+    r: Registers,
+    j: Judged,
     a: Item,
     an: Item,
     bn: Item,
@@ -72,124 +66,75 @@ fn place_memo(
     y: [u8; 32],
     yn: [u8; 32],
     m: [u8; 32],
-) -> Tried
-    ensures { λ t. ⌜ (t .fits ≡ opposite (noneFits sha256 k (placeSays sha256 (a .0) (an .0) (bn .0) w y yn) m))
-        × (t .blocks ≡ cost (placeForms (a .0) (an .0) (bn .0) w
-        ++ tried sha256 k (placeSays sha256 (a .0) (an .0) (bn .0) w y yn) m)) ⌝ }
+) -> Judged
+    ensures { λ k. ⌜ Next j (first-memo sha256 r (placeForms (a .0) (an .0) (bn .0) w)
+        (placeSays sha256 (a .0) (an .0) (bn .0) w y yn) m) k ⌝ }
 {
-    let z = [0u8; 32];
+    if j.stopped {
+        return j;
+    }
+    let none = [0u8; 32];
     let l1 = digests::leaf(a, an, w);
-    let l2 = digests::leaf(a, bn, w);
-    let l3 = digests::leaf(an, bn, z);
+    let l2 = digests::leaf(an, bn, none);
+    let l1n = digests::leaf(a, bn, w);
     let x1 = l1.bytes;
-    let x1n = l2.bytes;
-    let x2 = l3.bytes;
-    let leaves = l1.blocks + l2.blocks + l3.blocks;
-    let u = digests::u2(x1, x2, y, x1n, z, yn, k);
-    let ub = u.bytes;
-    if fields::same_digest(ub, m) {
-        return Tried {
-            fits: true,
-            blocks: leaves + u.blocks,
-        };
-    }
-    let v = digests::u2(x2, x1, y, z, x1n, yn, k);
-    let vb = v.bytes;
-    if fields::same_digest(vb, m) {
-        return Tried {
-            fits: true,
-            blocks: leaves + u.blocks + v.blocks,
-        };
-    }
-    Tried {
-        fits: false,
-        blocks: leaves + u.blocks + v.blocks,
-    }
+    let x2 = l2.bytes;
+    let x1n = l1n.bytes;
+    let secret = r.secret;
+    let worked = work(work(work(j, l1.blocks), l1n.blocks), l2.blocks);
+    compare_either(
+        worked,
+        u2(x1, x2, y, x1n, none, yn),
+        u2(x2, x1, y, none, x1n, yn),
+        secret,
+        m,
+    )
 }
 
-// 08: m is U2(x1,x2,y,x1',x2',y') or, tried second, U2(x2,x1,y,x2',x1',y'), where x1 is leaf(A,A',w), x1' leaf(A,B',w),
-// x2 leaf(A',B',0) and x2' 0; answers EI(y,y').
-pub fn place(
-    r: Registers,
-    a: Item,
-    an: Item,
-    bn: Item,
-    w: [u8; 32],
-    y: [u8; 32],
-    yn: [u8; 32],
-    m: [u8; 32],
-) -> Outcome
-    ensures { λ o. ⌜ o ≡ outcome r 8 (Q.place (a .0) (an .0) (bn .0) w y yn m) ⌝ }
+const PLACE_DIGESTS: u16 = FIELDS + 3 * NUMBER;
+
+// 08: A, A', B', w, y, y', m; A' lies in the gap of A and B'; answers EI(y,y').
+pub fn place(r: Registers, f: &[u8]) -> Outcome
+    ensures { λ o. ⌜ o ≡ outcome r 8 (requestAt 8 (now (f .entry))) ⌝ }
 {
-    if !r.opened {
-        return replies::refuse(r, 13, 0);
-    }
-    if a.0 == 0 {
-        return replies::refuse(r, 4, 0);
-    }
-    if an.0 == 0 {
-        return replies::refuse(r, 4, 0);
-    }
-    if bn.0 == 0 {
-        return replies::refuse(r, 4, 0);
-    }
-    if !digests::in_gap(an, a, bn) {
-        return replies::refuse(r, 6, 0);
-    }
-    let k = r.secret;
-    let t = place_memo(k, a, an, bn, w, y, yn, m);
-    if !t.fits {
-        return replies::refuse(r, 8, t.blocks);
-    }
-    let e = digests::ei(y, yn, k);
-    let eb = e.bytes;
-    replies::accept(r, 0x88, &eb, t.blocks + e.blocks)
+    let a = item(f, 0);
+    let an = item(f, 1);
+    let bn = item(f, 2);
+    let w = digest(f, PLACE_DIGESTS, 0);
+    let y = digest(f, PLACE_DIGESTS, 1);
+    let yn = digest(f, PLACE_DIGESTS, 2);
+    let m = digest(f, PLACE_DIGESTS, 3);
+    let j4 = refuse_if(begin_open(r), 4, a.0 == 0);
+    let j5 = refuse_if(j4, 4, an.0 == 0);
+    let j6 = refuse_if(j5, 4, bn.0 == 0);
+    let j7 = refuse_unless(j6, 6, records::in_gap(an, a, bn));
+    let j = place_memo(r, j7, a, an, bn, w, y, yn, m);
+    issue(r, j, 0x88, ei(y, yn))
 }
 
-// 09: m is EI(x,y); answers EI(y,x).
-pub fn turn(r: Registers, x: [u8; 32], y: [u8; 32], m: [u8; 32]) -> Outcome
-    ensures { λ o. ⌜ o ≡ outcome r 9 (Q.turn x y m) ⌝ }
+// 09: x, y, m; m is EI(x,y); answers EI(y,x).
+pub fn turn(r: Registers, f: &[u8]) -> Outcome
+    ensures { λ o. ⌜ o ≡ outcome r 9 (requestAt 9 (now (f .entry))) ⌝ }
 {
-    if !r.opened {
-        return replies::refuse(r, 13, 0);
-    }
-    let k = r.secret;
-    let u = digests::ei(x, y, k);
-    let ub = u.bytes;
-    if !fields::same_digest(ub, m) {
-        return replies::refuse(r, 8, u.blocks);
-    }
-    let e = digests::ei(y, x, k);
-    let eb = e.bytes;
-    replies::accept(r, 0x89, &eb, u.blocks + e.blocks)
+    let x = digest(f, FIELDS, 0);
+    let y = digest(f, FIELDS, 1);
+    let m = digest(f, FIELDS, 2);
+    let secret = r.secret;
+    let j = compare(begin_open(r), 8, ei(x, y), secret, m);
+    issue(r, j, 0x89, ei(y, x))
 }
 
-// 0a: m1 is EI(x,y) and m2 is EI(y,z); answers EI(x,z).
-pub fn chain(
-    r: Registers,
-    x: [u8; 32],
-    y: [u8; 32],
-    m1: [u8; 32],
-    z: [u8; 32],
-    m2: [u8; 32],
-) -> Outcome
-    ensures { λ o. ⌜ o ≡ outcome r 10 (Q.chain x y m1 z m2) ⌝ }
+// 0a: x, y, m1, z, m2; m1 is EI(x,y) and m2 is EI(y,z); answers EI(x,z).
+pub fn chain(r: Registers, f: &[u8]) -> Outcome
+    ensures { λ o. ⌜ o ≡ outcome r 10 (requestAt 10 (now (f .entry))) ⌝ }
 {
-    if !r.opened {
-        return replies::refuse(r, 13, 0);
-    }
-    let k = r.secret;
-    let u = digests::ei(x, y, k);
-    let ub = u.bytes;
-    if !fields::same_digest(ub, m1) {
-        return replies::refuse(r, 8, u.blocks);
-    }
-    let v = digests::ei(y, z, k);
-    let vb = v.bytes;
-    if !fields::same_digest(vb, m2) {
-        return replies::refuse(r, 9, u.blocks + v.blocks);
-    }
-    let e = digests::ei(x, z, k);
-    let eb = e.bytes;
-    replies::accept(r, 0x8a, &eb, u.blocks + v.blocks + e.blocks)
+    let x = digest(f, FIELDS, 0);
+    let y = digest(f, FIELDS, 1);
+    let m1 = digest(f, FIELDS, 2);
+    let z = digest(f, FIELDS, 3);
+    let m2 = digest(f, FIELDS, 4);
+    let secret = r.secret;
+    let i = compare(begin_open(r), 8, ei(x, y), secret, m1);
+    let j = compare(i, 9, ei(y, z), secret, m2);
+    issue(r, j, 0x8a, ei(x, z))
 }

@@ -1,18 +1,29 @@
-// Kinds 01 to 05: what stands above what in the tree. Each function answers one request that was read already, on
-// registers by value.
+// Kinds 01 to 05: what stands above what in the tree. Each function answers a frame of its kind, on registers by value.
+use checks::Judged;
+use checks::begin_open;
+use checks::compare;
+use checks::finish;
+use checks::issue;
+use checks::work;
 use digests::Digest;
-use paper::MOST_SIBLINGS;
+use digests::u1;
+use digests::u2;
+use digests::v1;
+use paper::BEFORE_SIBLINGS;
 use paper::Registers;
+use places::FIELDS;
+use places::digest;
 use replies::Outcome;
 ghost use mathlib.Core.Path.{_≡_};
 ghost use mathlib.Core.List.{_∷_, _++_};
 ghost use Prim.Native.Nat.{_≤_};
-ghost use lib.ListN.{take};
 ghost use Rattle.sha256.specs.Hash.{sha256};
 ghost use Rattle.paper.specs.Strings as S;
-ghost use Rattle.paper.specs.Requests as Q;
 ghost use Rattle.digests.specs.Worked.{worked};
 ghost use Rattle.replies.specs.Outcomes.{outcome};
+ghost use Rattle.checks.specs.Steps.{Finished};
+ghost use Rattle.places.specs.Places.{requestAt};
+ghost use Rattle.tree_kinds.specs.Paths.{sidesOf, siblingsOf, pairSays};
 
 // One level up, from u with its sibling s; bit is 1 if the sibling stands on the left.
 fn level(u: [u8; 32], s: [u8; 32], bit: u64) -> Digest
@@ -25,18 +36,18 @@ fn level(u: [u8; 32], s: [u8; 32], bit: u64) -> Digest
     }
 }
 
-// The first n siblings folded level by level, the lowest first.
-fn fold(x: [u8; 32], siblings: [[u8; 32]; MOST_SIBLINGS], n: usize, sides: u64) -> Digest
-    requires { ⌜ n ≤ 64 ⌝ }
-    ensures { λ d. ⌜ (d ≡ worked (S.foldUp sha256 x sides (take n siblings)) (S.foldForms sha256 x sides (take n siblings)))
-        × (d .blocks ≤ 128) ⌝ }
+// x folded up the path of a frame, level by level, the lowest sibling first.
+fn fold(x: [u8; 32], f: &[u8]) -> Digest
+    ensures { λ d. ⌜ d ≡ worked (S.foldUp sha256 x (sidesOf (now (f .entry))) (siblingsOf (now (f .entry))))
+        (S.foldForms sha256 x (sidesOf (now (f .entry))) (siblingsOf (now (f .entry)))) ⌝ }
 {
+    let n = fields::byte_at(f, 65) as usize;
     let mut u = x;
     let mut b: u64 = 0;
-    let mut bits = sides;
+    let mut bits = fields::number_at(f, 66);
     let mut i: usize = 0;
     while i < n {
-        let s = siblings[i];
+        let s = fields::digest_at(f, BEFORE_SIBLINGS + 32 * i);
         let d = level(u, s, bits % 2);
         u = d.bytes;
         b = b + d.blocks;
@@ -49,147 +60,76 @@ fn fold(x: [u8; 32], siblings: [[u8; 32]; MOST_SIBLINGS], n: usize, sides: u64) 
     }
 }
 
-fn three(a: [u8; 32], b: [u8; 32], c: [u8; 32]) -> [u8; 96]
-    ensures { λ r. ⌜ r ≡ (a ++ b) ++ c ⌝ }
+// What a path's answer lists.
+fn path_lists(y: [u8; 32], yn: [u8; 32], m: [u8; 32]) -> [u8; 96]
+    ensures { λ r. ⌜ r ≡ (y ++ yn) ++ m ⌝ }
 {
     let mut s = [0u8; 96];
-    fields::put(&mut s, 0, &a);
-    fields::put(&mut s, 32, &b);
-    fields::put(&mut s, 64, &c);
+    fields::put(&mut s, 0, &y);
+    fields::put(&mut s, 32, &yn);
+    fields::put(&mut s, 64, &m);
     s
 }
 
-fn path_of(
+// 01: x, x', n, sides and n siblings; answers y, y' and U1(x,y,x',y'), y and y' being x and x' folded up the path.
+pub fn path(r: Registers, f: &[u8]) -> Outcome
+    ensures { λ o. ⌜ o ≡ outcome r 1 (requestAt 1 (now (f .entry))) ⌝ }
+{
+    let j = begin_open(r);
+    if j.stopped {
+        return replies::refuse(r, j.number, j.blocks);
+    }
+    let x = digest(f, FIELDS, 0);
+    let xn = digest(f, FIELDS, 1);
+    let up = fold(x, f);
+    let upn = fold(xn, f);
+    let y = up.bytes;
+    let yn = upn.bytes;
+    let secret = r.secret;
+    let u = digests::memorandum(u1(x, y, xn, yn), secret);
+    let m = u.bytes;
+    let lists = path_lists(y, yn, m);
+    let worked = work(work(work(j, up.blocks), upn.blocks), u.blocks);
+    finish(r, worked, 0x81, r, &lists)
+}
+
+// 02: x, y, m; m is U1(x,y,x,y); answers V1(x,y).
+pub fn witness(r: Registers, f: &[u8]) -> Outcome
+    ensures { λ o. ⌜ o ≡ outcome r 2 (requestAt 2 (now (f .entry))) ⌝ }
+{
+    let x = digest(f, FIELDS, 0);
+    let y = digest(f, FIELDS, 1);
+    let m = digest(f, FIELDS, 2);
+    let secret = r.secret;
+    let due = u1(x, y, x, y);
+    let j = compare(begin_open(r), 8, due, secret, m);
+    let answer = v1(x, y);
+    issue(r, j, 0x82, answer)
+}
+
+// 03: x, y, x', y', m1, z, z', m2; m1 is U1(x,y,x',y') and m2 is U1(y,z,y',z'), so that both halves meet; answers
+// U1(x,z,x',z').
+pub fn join(r: Registers, f: &[u8]) -> Outcome
+    ensures { λ o. ⌜ o ≡ outcome r 3 (requestAt 3 (now (f .entry))) ⌝ }
+{
+    let x = digest(f, FIELDS, 0);
+    let y = digest(f, FIELDS, 1);
+    let xn = digest(f, FIELDS, 2);
+    let yn = digest(f, FIELDS, 3);
+    let m1 = digest(f, FIELDS, 4);
+    let z = digest(f, FIELDS, 5);
+    let zn = digest(f, FIELDS, 6);
+    let m2 = digest(f, FIELDS, 7);
+    let secret = r.secret;
+    let i = compare(begin_open(r), 8, u1(x, y, xn, yn), secret, m1);
+    let j = compare(i, 9, u1(y, z, yn, zn), secret, m2);
+    issue(r, j, 0x83, u1(x, z, xn, zn))
+}
+
+// The answer of a pair: its two nodes are worked for it alone.
+fn pair_answer(
     r: Registers,
-    x: [u8; 32],
-    xn: [u8; 32],
-    n: usize,
-    sides: u64,
-    siblings: [[u8; 32]; MOST_SIBLINGS],
-) -> Outcome
-    requires { ⌜ n ≤ 64 ⌝ }
-    ensures { λ o. ⌜ o ≡ outcome r 1 (Q.path x xn sides (take n siblings)) ⌝ }
-{
-    if !r.opened {
-        return replies::refuse(r, 13, 0);
-    }
-    let k = r.secret;
-    let f = fold(x, siblings, n, sides);
-    let g = fold(xn, siblings, n, sides);
-    let y = f.bytes;
-    let yn = g.bytes;
-    let u = digests::u1(x, y, xn, yn, k);
-    let ub = u.bytes;
-    let lists = three(y, yn, ub);
-    replies::accept(r, 0x81, &lists, f.blocks + g.blocks + u.blocks)
-}
-
-// 01: folds x and x' up the same path of the first n siblings; answers y, y' and U1(x,y,x',y').
-pub fn path(
-    r: Registers,
-    x: [u8; 32],
-    xn: [u8; 32],
-    n: usize,
-    sides: u64,
-    siblings: [[u8; 32]; MOST_SIBLINGS],
-) -> Outcome
-    ensures { λ o. ⌜ o ≡ outcome r 1 (Q.path x xn sides (take n siblings)) ⌝ }
-{
-    if 64 < n {
-        return path_of(r, x, xn, 64, sides, siblings);
-    }
-    path_of(r, x, xn, n, sides, siblings)
-}
-
-// 02: m is U1(x,y,x,y); answers V1(x,y).
-pub fn witness(r: Registers, x: [u8; 32], y: [u8; 32], m: [u8; 32]) -> Outcome
-    ensures { λ o. ⌜ o ≡ outcome r 2 (Q.witness x y m) ⌝ }
-{
-    if !r.opened {
-        return replies::refuse(r, 13, 0);
-    }
-    let k = r.secret;
-    let u = digests::u1(x, y, x, y, k);
-    let ub = u.bytes;
-    if !fields::same_digest(ub, m) {
-        return replies::refuse(r, 8, u.blocks);
-    }
-    let v = digests::v1(x, y, k);
-    let vb = v.bytes;
-    replies::accept(r, 0x82, &vb, u.blocks + v.blocks)
-}
-
-// 03: m1 is U1(x,y,x',y') and m2 is U1(y,z,y',z'); answers U1(x,z,x',z'). Both halves have to meet.
-pub fn join(
-    r: Registers,
-    x: [u8; 32],
-    y: [u8; 32],
-    xn: [u8; 32],
-    yn: [u8; 32],
-    m1: [u8; 32],
-    z: [u8; 32],
-    zn: [u8; 32],
-    m2: [u8; 32],
-) -> Outcome
-    ensures { λ o. ⌜ o ≡ outcome r 3 (Q.join x y xn yn m1 z zn m2) ⌝ }
-{
-    if !r.opened {
-        return replies::refuse(r, 13, 0);
-    }
-    let k = r.secret;
-    let u = digests::u1(x, y, xn, yn, k);
-    let ub = u.bytes;
-    if !fields::same_digest(ub, m1) {
-        return replies::refuse(r, 8, u.blocks);
-    }
-    let upper = digests::u1(y, z, yn, zn, k);
-    let ub2 = upper.bytes;
-    if !fields::same_digest(ub2, m2) {
-        return replies::refuse(r, 9, u.blocks + upper.blocks);
-    }
-    let w = digests::u1(x, z, xn, zn, k);
-    let wb = w.bytes;
-    replies::accept(r, 0x83, &wb, u.blocks + upper.blocks + w.blocks)
-}
-
-// 05: m1 is U2(x1,x2,y,x1',x2',y') and m2 is U1(y,z,y',z'); answers U2(x1,x2,z,x1',x2',z').
-pub fn raise(
-    r: Registers,
-    x1: [u8; 32],
-    x2: [u8; 32],
-    y: [u8; 32],
-    x1n: [u8; 32],
-    x2n: [u8; 32],
-    yn: [u8; 32],
-    m1: [u8; 32],
-    z: [u8; 32],
-    zn: [u8; 32],
-    m2: [u8; 32],
-) -> Outcome
-    ensures { λ o. ⌜ o ≡ outcome r 5 (Q.raise x1 x2 y x1n x2n yn m1 z zn m2) ⌝ }
-{
-    if !r.opened {
-        return replies::refuse(r, 13, 0);
-    }
-    let k = r.secret;
-    let both = digests::u2(x1, x2, y, x1n, x2n, yn, k);
-    let ub = both.bytes;
-    if !fields::same_digest(ub, m1) {
-        return replies::refuse(r, 8, both.blocks);
-    }
-    let v = digests::u1(y, z, yn, zn, k);
-    let vb = v.bytes;
-    if !fields::same_digest(vb, m2) {
-        return replies::refuse(r, 9, both.blocks + v.blocks);
-    }
-    let w = digests::u2(x1, x2, z, x1n, x2n, zn, k);
-    let wb = w.bytes;
-    replies::accept(r, 0x85, &wb, both.blocks + v.blocks + w.blocks)
-}
-
-// U2 of two places under one node, with all that is formed for it.
-fn pair_memo(
-    secret: [u8; 32],
+    j: Judged,
     x1: [u8; 32],
     x2: [u8; 32],
     y: [u8; 32],
@@ -198,54 +138,60 @@ fn pair_memo(
     x2n: [u8; 32],
     yn: [u8; 32],
     zn: [u8; 32],
-) -> Digest
-    ensures { λ d. ⌜ d ≡ worked (S.digest sha256 (S.memo (S.u2 x1 x2 (S.H sha256 y z) x1n x2n (S.H sha256 yn zn)) secret))
-        (S.memo (S.u2 x1 x2 (S.H sha256 y z) x1n x2n (S.H sha256 yn zn)) secret
-        ∷ (S.parentForms yn zn ++ S.parentForms y z)) ⌝ }
+) -> Outcome
+    ensures { λ o. ⌜ Finished r j 0x84 r (S.memorandum sha256 (pairSays x1 x2 y z x1n x2n yn zn) (r .secret))
+        (S.memorandumForms sha256 (pairSays x1 x2 y z x1n x2n yn zn) (r .secret)
+        ++ (S.parentForms yn zn ++ S.parentForms y z)) o ⌝ }
 {
-    let h = digests::parent(y, z);
-    let hn = digests::parent(yn, zn);
-    let hb = h.bytes;
-    let hnb = hn.bytes;
-    let w = digests::u2(x1, x2, hb, x1n, x2n, hnb, secret);
-    let wb = w.bytes;
-    Digest {
-        bytes: wb,
-        blocks: h.blocks + hn.blocks + w.blocks,
+    if j.stopped {
+        return replies::refuse(r, j.number, j.blocks);
     }
+    let node = digests::parent(y, z);
+    let noden = digests::parent(yn, zn);
+    let h = node.bytes;
+    let hn = noden.bytes;
+    let worked = work(work(j, node.blocks), noden.blocks);
+    issue(r, worked, 0x84, u2(x1, x2, h, x1n, x2n, hn))
 }
 
-// 04: m1 is U1(x1,y,x1',y') and m2 is U1(x2,z,x2',z'); answers U2 of both under one node.
-pub fn pair(
-    r: Registers,
-    x1: [u8; 32],
-    y: [u8; 32],
-    x1n: [u8; 32],
-    yn: [u8; 32],
-    m1: [u8; 32],
-    x2: [u8; 32],
-    z: [u8; 32],
-    x2n: [u8; 32],
-    zn: [u8; 32],
-    m2: [u8; 32],
-) -> Outcome
-    ensures { λ o. ⌜ o ≡ outcome r 4 (Q.pair x1 y x1n yn m1 x2 z x2n zn m2) ⌝ }
+// 04: x1, y, x1', y', m1, x2, z, x2', z', m2; m1 is U1(x1,y,x1',y') and m2 is U1(x2,z,x2',z'); answers U2 of x1 and x2
+// under one node.
+pub fn pair(r: Registers, f: &[u8]) -> Outcome
+    ensures { λ o. ⌜ o ≡ outcome r 4 (requestAt 4 (now (f .entry))) ⌝ }
 {
-    if !r.opened {
-        return replies::refuse(r, 13, 0);
-    }
-    let k = r.secret;
-    let u = digests::u1(x1, y, x1n, yn, k);
-    let ub = u.bytes;
-    if !fields::same_digest(ub, m1) {
-        return replies::refuse(r, 8, u.blocks);
-    }
-    let v = digests::u1(x2, z, x2n, zn, k);
-    let vb = v.bytes;
-    if !fields::same_digest(vb, m2) {
-        return replies::refuse(r, 9, u.blocks + v.blocks);
-    }
-    let w = pair_memo(k, x1, x2, y, z, x1n, x2n, yn, zn);
-    let wb = w.bytes;
-    replies::accept(r, 0x84, &wb, u.blocks + v.blocks + w.blocks)
+    let x1 = digest(f, FIELDS, 0);
+    let y = digest(f, FIELDS, 1);
+    let x1n = digest(f, FIELDS, 2);
+    let yn = digest(f, FIELDS, 3);
+    let m1 = digest(f, FIELDS, 4);
+    let x2 = digest(f, FIELDS, 5);
+    let z = digest(f, FIELDS, 6);
+    let x2n = digest(f, FIELDS, 7);
+    let zn = digest(f, FIELDS, 8);
+    let m2 = digest(f, FIELDS, 9);
+    let secret = r.secret;
+    let i = compare(begin_open(r), 8, u1(x1, y, x1n, yn), secret, m1);
+    let j = compare(i, 9, u1(x2, z, x2n, zn), secret, m2);
+    pair_answer(r, j, x1, x2, y, z, x1n, x2n, yn, zn)
+}
+
+// 05: x1, x2, y, x1', x2', y', m1, z, z', m2; m1 is U2(x1,x2,y,x1',x2',y') and m2 is U1(y,z,y',z'); answers
+// U2(x1,x2,z,x1',x2',z').
+pub fn raise(r: Registers, f: &[u8]) -> Outcome
+    ensures { λ o. ⌜ o ≡ outcome r 5 (requestAt 5 (now (f .entry))) ⌝ }
+{
+    let x1 = digest(f, FIELDS, 0);
+    let x2 = digest(f, FIELDS, 1);
+    let y = digest(f, FIELDS, 2);
+    let x1n = digest(f, FIELDS, 3);
+    let x2n = digest(f, FIELDS, 4);
+    let yn = digest(f, FIELDS, 5);
+    let m1 = digest(f, FIELDS, 6);
+    let top = digest(f, FIELDS, 7);
+    let topn = digest(f, FIELDS, 8);
+    let m2 = digest(f, FIELDS, 9);
+    let secret = r.secret;
+    let i = compare(begin_open(r), 8, u2(x1, x2, y, x1n, x2n, yn), secret, m1);
+    let j = compare(i, 9, u1(y, top, yn, topn), secret, m2);
+    issue(r, j, 0x85, u2(x1, x2, top, x1n, x2n, topn))
 }

@@ -1,111 +1,29 @@
--- Each return is a row of the table: the tests on numbers, then the memorandum as its callee worked it, and the root.
-use mathlib.Core.Path.{sym, _∙_}
-use Prim.Native.Nat.{ℕ}
+-- The kind's row of the table: what set and clear share, and check 11 between.
+use mathlib.Core.Path.{ap, _∙_}
 use native.Mathlib.Omega.{arith}
-use borrow.Author.Tests.{eq-eqb, ne-eqb}
-use Rattle.sha256.specs.Hash.{sha256}
+use Rattle.paper.specs.Strings.{blank}
 use Rattle.paper.specs.Requests as Q
-use Rattle.paper.specs.Refusals.{changeForms}
-use Rattle.digests.proofs.Fit.{bytes-of, blocks-of}
-use Rattle.replies.proofs.Stages.{Met, begun, turned, compared, passes, refuses, works, stops, answers}
-use borrow.Author.Needs.{needs}
+use Rattle.checks.proofs.Steps.{step, rest, then-run, by-test, answered}
+use Rattle.places.specs.Places.{bytesAt, itemIn, digestIn, requestAt}
+use Rattle.places.proofs.Places.{free}
+use Rattle.list_kinds.specs.Changes.{oldIn}
 use Rattle.list_kinds.proofs.clear_record.Statement.{statement}
 use Rattle.list_kinds.proofs.clear_record.Tie as tie
 
--- the first i checks are met, n blocks worked
-abbrev At : (i n : ℕ) → tie.Start → Type 0
-At i n c =
-    let a = c .args in
-    Met i (a .r) 13 (Q.clear (a .a .0) (a .b .0) (a .old) (a .y) (a .cleared) (a .m)) n
-
-abbrev start : tie.Else6 → tie.Start
-start c = c .before .before .before .before .before .before .before .before .before .before .before .before .before
-
-opened : (c : tie.Else1) → At 1 0 (c .before .before)
-opened c = passes (begun _ _ _) (c .if1 .left)
-
-item : (c : tie.Else2) → At 2 0 (c .before .before .before .before)
-item c = passes (opened (c .before .before)) (ne-eqb _ _ (c .if2 .left))
-
-next : (c : tie.Else3) → At 3 0 (c .before .before .before .before .before .before)
-next c = passes (item (c .before .before)) (ne-eqb _ _ (c .if3 .left))
-
-formed : (c : tie.Else4) → At 4 0 (c .before .before .before .before .before .before .before .before)
-formed c = passes (next (c .before .before)) (sym (c .before .is-malformed .ensures) ∙ c .if4 .left)
-
-recorded : (c : tie.Else5) → At 5 0 (c .before .before .before .before .before .before .before .before .before .before)
-recorded c = passes (formed (c .before .before)) (sym (c .before .is-blank .ensures) ∙ c .if5 .left)
-
-room : (c : tie.Else6) → At 6 0 (start c)
-room c = passes (recorded (c .before .before .before)) (ne-eqb _ _ (c .if6 .left))
-
--- the same, once the memorandum is worked
-abbrev Worked : (i : ℕ) → tie.After-change-memo → Type 0
-Worked i c = At i (c .change-memo .result .blocks) (start (c .before .before .before))
-
-fits : (c : tie.Else7) → Worked 7 (c .before .before .before)
-fits c =
-    let b = c .before .before .before in
-    works (room (b .before .before .before))
-    (compared (changeForms sha256 _ _ _ _) _ _ (bytes-of (b .change-memo .ensures)) (c .before .same-digest .ensures) (c .if7 .left)
-    (omega (arith, blocks-of (b .change-memo .ensures))))
-
-current : (c : tie.Else8) → Worked 8 (c .before .before .before .before .before .before)
-current c = passes (fits (c .before .before .before)) (turned (c .before .same-digest2 .ensures) (c .if8 .left))
-
 returns : tie.Need-returns
-returns c = c .refuse .ensures ∙ refuses (begun _ _ _) (c .before .if1 .taken)
-
-returns-2 : tie.Need-returns-2
-returns-2 c = c .refuse2 .ensures ∙ refuses (opened (c .before .before .before)) (eq-eqb _ _ (c .before .if2 .taken))
-
-returns-3 : tie.Need-returns-3
-returns-3 c = c .refuse3 .ensures ∙ refuses (item (c .before .before .before)) (eq-eqb _ _ (c .before .if3 .taken))
-
-returns-4 : tie.Need-returns-4
-returns-4 c =
-    let b = c .before .before in
-    c .refuse4 .ensures ∙ refuses (next (b .before)) (sym (b .is-malformed .ensures) ∙ c .before .if4 .taken)
-
-returns-5 : tie.Need-returns-5
-returns-5 c =
-    let b = c .before .before in
-    c .refuse5 .ensures ∙ refuses (formed (b .before)) (sym (b .is-blank .ensures) ∙ c .before .if5 .taken)
-
-returns-6 : tie.Need-returns-6
-returns-6 c =
-    c .refuse6 .ensures ∙ refuses (recorded (c .before .before .before .before)) (eq-eqb _ _ (c .before .if6 .taken))
-
-returns-7 : tie.Need-returns-7
-returns-7 c =
-    let d = c .before .before in
-    let b = d .before .before in
-    c .refuse7 .ensures
-    ∙ stops (room (b .before .before .before))
-    (compared (changeForms sha256 _ _ _ _) _ _ (bytes-of (b .change-memo .ensures)) (d .same-digest .ensures) (c .before .if7 .taken)
-    (omega (arith, blocks-of (b .change-memo .ensures))))
-
-returns-8 : tie.Need-returns-8
-returns-8 c =
-    let b = c .before .before in
-    c .refuse8 .ensures ∙ refuses (fits (b .before .before)) (turned (b .same-digest2 .ensures) (c .before .if8 .taken))
-
-returns-9 : tie.Need-returns-9
-returns-9 c =
-    let b = c .before .before in
-    let l = b .root-and-counter in
-    c .accept .ensures ∙ answers (current (b .before)) (l .ensures) (omega arith) (omega (arith, l .ok))
+unfolding bytesAt requestAt Q.kinds
+returns c =
+    let recorded = c .before in
+    let test = recorded .before in
+    let old = test .before in
+    let begun = old .before in
+    let a = begun .before .before .args in
+    let f = a .f .now in
+    answered (a .r) 13 f {q = Q.clear (itemIn f 0) (itemIn f 1) (oldIn f) (digestIn f 49 0) (digestIn f 49 1) (digestIn f 49 2)}
+    (λ i. requestAt 13 f)
+    (then-run (begun .begin-change .ensures)
+    (step (by-test (recorded .refuse-if .ensures) (test .is-blank .ensures ∙ ap blank (old .record-at .ensures))) rest))
+    (c .changed .ensures .is) (omega arith)
 
 pub clear-record-spec : {M : Type 1} → statement M
-clear-record-spec =
-    tie.close
-    (tie.spec
-    (search needs) returns
-    (search needs) returns-2
-    (search needs) returns-3
-    (search needs) (search needs) returns-4
-    (search needs) (search needs) returns-5
-    (search needs) returns-6
-    (λ c. search needs) (search needs) (search needs) (search needs) returns-7
-    (search needs) (search needs) returns-8
-    (search needs) (λ c. search needs) (search needs) returns-9)
+clear-record-spec = tie.close (tie.spec free free free free free returns)

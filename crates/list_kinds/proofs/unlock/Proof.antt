@@ -1,38 +1,30 @@
--- Each return is a row of the table: already open, a secret of zeros, or the secret kept.
-use mathlib.Core.Path.{refl, sym, _∙_}
-use Prim.Native.Nat.{ℕ}
+-- The kind's row of the table, check by check.
+use mathlib.Core.Path.{ap, _∙_}
 use native.Mathlib.Omega.{arith}
 use Rattle.paper.specs.Requests as Q
-use Rattle.replies.proofs.Stages.{Met, begun, passes, refuses, answers}
+use Rattle.paper.specs.Refusals.{isShut}
+use Rattle.checks.specs.declared.Judged.{Judged}
+use Rattle.checks.specs.Steps.{unjudged, afterCheck, Next}
+use Rattle.checks.proofs.Steps.{step, last, by-test, answered}
+use Rattle.places.specs.Places.{bytesAt, requestAt}
+use Rattle.places.proofs.Places.{free}
 use borrow.Author.Needs.{needs}
 use Rattle.list_kinds.proofs.unlock.Statement.{statement}
 use Rattle.list_kinds.proofs.unlock.Tie as tie
 
--- the first i checks are met
-abbrev At : (i : ℕ) → tie.Start → Type 0
-At i c = Met i (c .args .r) 16 (Q.unlock (c .args .secret)) 0
-
-unopened : (c : tie.Else1) → At 1 (c .before)
-unopened c = passes (begun _ _ _) (c .if1 .left)
-
-secret : (c : tie.Else2) → At 2 (c .before .before .before)
-secret c = passes (unopened (c .before .before)) (sym (c .before .is-zero .ensures) ∙ c .if2 .left)
-
 returns : tie.Need-returns
-returns c = c .refuse .ensures ∙ refuses (begun _ _ _) (c .before .if1 .taken)
-
-returns-2 : tie.Need-returns-2
-returns-2 c =
-    let b = c .before .before in
-    c .refuse2 .ensures ∙ refuses (unopened (b .before)) (sym (b .is-zero .ensures) ∙ c .before .if2 .taken)
-
-returns-3 : tie.Need-returns-3
-returns-3 c = c .accept .ensures ∙ answers (secret (c .before .before)) refl refl (omega arith)
+unfolding bytesAt requestAt Q.kinds
+returns c =
+    let zero = c .before .before in
+    let test = zero .before in
+    let shut = test .before in
+    let begun = shut .before in
+    let secret = begun .before in
+    let a = secret .before .before .args in
+    let first : Next unjudged (isShut (a .r)) (shut .refuse-if .result) =
+    record { is = shut .refuse-if .ensures .is ∙ ap (λ (j : Judged). afterCheck j (isShut (a .r))) (begun .begin .ensures) } in
+    answered (a .r) 16 (a .f .now) (λ i. Q.unlock (secret .digest .ensures i))
+    (step first (last (by-test (zero .refuse-if2 .ensures) (test .is-zero .ensures)))) (c .finish .ensures) (omega arith)
 
 pub unlock-spec : {M : Type 1} → statement M
-unlock-spec =
-    tie.close
-    (tie.spec
-    (search needs) returns
-    (search needs) (search needs) returns-2
-    (λ c. search needs) (search needs) returns-3)
+unlock-spec = tie.close (tie.spec free free free free free (λ c. search needs) free returns)
