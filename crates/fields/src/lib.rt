@@ -100,17 +100,20 @@ pub fn put(buffer: &mut [u8], at: usize, source: &[u8])
     }
 }
 
+// Whether two digests are the same. The module compares memoranda by this, for a tablet that may try without limit. A
+// comparison that ended at the first byte that differs would tell it, by the time it takes, how far a guess is right, and
+// a memorandum could be found byte by byte. So there is no early exit: the bits that differ are gathered from all 32
+// bytes, and looked at once, at the end. docs/PROMISES.md, "Time", says what becomes of that in the compiled program.
 pub fn same_digest(a: [u8; 32], b: [u8; 32]) -> bool
     ensures { λ r. ⌜ r ≡ same a b ⌝ }
 {
-    let mut i: usize = 0;
-    while i < 32 {
-        if a[i] != b[i] {
-            return false;
-        }
-        i += 1;
+    let mut differ: u8 = 0;
+    let mut at: usize = 0;
+    while at < 32 {
+        differ |= a[at] ^ b[at];
+        at += 1;
     }
-    true
+    differ == 0
 }
 
 pub fn is_zero(a: [u8; 32]) -> bool
