@@ -1,6 +1,6 @@
 -- Checks made one after the other: what each does, and the one law of all kinds: a request whose checks were all made comes to
 -- the outcome that the paper's table gives.
-use mathlib.Core.Path.{_≡_, refl, sym, ap, subst, _∙_}
+use mathlib.Core.Path.{_≡_, refl, sym, ap, ap₂, subst, _∙_}
 use mathlib.Core.Bool.{Bool, true, false}
 use mathlib.Core.List.{List, [], _∷_, _++_}
 use Prim.Native.Nat.{ℕ, suc, _+_, _%_, _^_, _<_, _≤_}
@@ -19,14 +19,16 @@ use Rattle.paper.specs.Answers.{answer}
 use Rattle.paper.specs.Module.{told}
 use Rattle.paper.specs.Ceilings.{ceiling}
 use Rattle.paper.proofs.Ceilings.{cost-append, request-cost}
+use Rattle.digests.specs.declared.Digest.{Digest}
 use Rattle.digests.specs.declared.Says.{Says}
-use Rattle.digests.specs.Speaking.{Spoken}
+use Rattle.digests.specs.Speaking.{Spoken, madeOf}
+use Rattle.digests.proofs.Speaking.{made-of}
 use Rattle.replies.specs.declared.Outcome.{Outcome}
 use Rattle.replies.specs.Outcomes.{outcomeOf, outcome, refusal, answerLength, acceptance}
 use Rattle.places.specs.Places.{requestAt}
 use Rattle.places.proofs.Places.{answer-short}
 use Rattle.checks.specs.declared.Judged.{Judged}
-use Rattle.checks.specs.Steps.{unjudged, counted, afterCheck, Next, afterForming, Formed, afterChecks, Ran, ending, Finished, Concludes, memoCheck}
+use Rattle.checks.specs.Steps.{unjudged, counted, afterCheck, Next, afterWork, Worked, Formed, afterChecks, Ran, ending, Finished, Concludes, memoCheck, comparing, Compared, comparingEither, ComparedEither, issuing, Issued}
 
 -- ── one check ──
 
@@ -35,19 +37,14 @@ pub stopped : {j : Judged} {c : Check} → j .stopped ≡ true → Next j c j
 unfolding afterCheck
 stopped e = record { is = rw e refl }
 
-pub unformed : {j : Judged} {fs : List Str} → j .stopped ≡ true → Formed j fs j
-unfolding afterForming
-unformed e = record { is = rw e refl }
-
 pub going : {j : Judged} {c : Check} {k : ℕ} → j .stopped ≡ false → k ≡ counted j (cost (c .forms))
     → Next j c (record { stopped = c .fails; number = c .number; blocks = k })
 unfolding afterCheck
 going {j} e h = record { is = rw (e, h) refl }
 
-pub forming : {j : Judged} {fs : List Str} {k : ℕ} → j .stopped ≡ false → k ≡ counted j (cost fs)
-    → Formed j fs (record { stopped = false; number = j .number; blocks = k })
-unfolding afterForming
-forming {j} e h = record { is = rw (e, h) refl }
+-- blocks worked, as many as some strings cost
+pub formed : (fs : List Str) {j k : Judged} {n : ℕ} → Worked j n k → n ≡ cost fs → Formed j fs k
+formed fs {j} w e = record { is = w .is ∙ ap (afterWork j) e }
 
 -- a check and those behind it
 pub step : {i j k : Judged} {c : Check} {l : List Check} → Next i c j → Ran j l k → Ran i (c ∷ l) k
@@ -101,8 +98,8 @@ behind fs c = record { number = c .number; fails = c .fails; forms = fs ++ c .fo
 
 join-by : (b : Bool) (n k : ℕ) (fs : List Str) (c : Check)
     → let j : Judged = record { stopped = b; number = n; blocks = k } in
-    afterCheck (afterForming j fs) c ≡ afterCheck j (behind fs c)
-unfolding afterCheck afterForming
+    afterCheck (afterWork j (cost fs)) c ≡ afterCheck j (behind fs c)
+unfolding afterCheck afterWork
 join-by true n k fs c = refl
 join-by false n k fs c =
     let e : ((k + cost fs) % 2 ^ 64 + cost (c .forms)) % 2 ^ 64 ≡ (k + cost (fs ++ c .forms)) % 2 ^ 64 =
@@ -116,8 +113,8 @@ joined {i} {fs = fs} {c = c} e f =
 -- strings formed one after the other
 both-by : (b : Bool) (n k : ℕ) (fs gs : List Str)
     → let j : Judged = record { stopped = b; number = n; blocks = k } in
-    afterForming (afterForming j fs) gs ≡ afterForming j (fs ++ gs)
-unfolding afterForming
+    afterWork (afterWork j (cost fs)) (cost gs) ≡ afterWork j (cost (fs ++ gs))
+unfolding afterWork
 both-by true n k fs gs = refl
 both-by false n k fs gs =
     let e : ((k + cost fs) % 2 ^ 64 + cost gs) % 2 ^ 64 ≡ (k + cost (fs ++ gs)) % 2 ^ 64 = omega (arith, cost-append fs gs) in
@@ -125,97 +122,153 @@ both-by false n k fs gs =
 
 pub both-formed : {i j k : Judged} {fs gs : List Str} → Formed i fs j → Formed j gs k → Formed i (fs ++ gs) k
 both-formed {i} {fs = fs} {gs} e f =
-    record { is = f .is ∙ ap (λ (x : Judged). afterForming x gs) (e .is) ∙ both-by (i .stopped) (i .number) (i .blocks) fs gs }
+    record { is = f .is ∙ ap (λ (x : Judged). afterWork x (cost gs)) (e .is) ∙ both-by (i .stopped) (i .number) (i .blocks) fs gs }
 
 -- ── a memorandum worked and compared ──
 
--- where none has failed the number of the last check does not matter
-same-start : {b n n′ : ℕ} {c : Check} {k : Judged}
-    → Next (record { stopped = false; number = n; blocks = b }) c k → Next (record { stopped = false; number = n′; blocks = b }) c k
-unfolding afterCheck
-same-start e = record { is = e .is }
+-- words of any kind, as the code works and compares them
+work-then : (b : Bool) (n k x number : ℕ) (f : Bool)
+    → let j : Judged = record { stopped = b; number = n; blocks = k } in
+    afterCheck (afterWork j x) (plain number f) ≡ pick b j (record { stopped = f; number = number; blocks = counted j x })
+unfolding afterCheck afterWork
+work-then true n k x number f = refl
+work-then false n k x number f =
+    let e : ((k + x) % 2 ^ 64 + 0) % 2 ^ 64 ≡ (k + x) % 2 ^ 64 = omega arith in
+    λ i. record { stopped = f; number = number; blocks = e i }
+
+abbrev with-digest : Judged → (number : ℕ) (m : Dig) → Digest → Judged
+with-digest j number m d =
+    pick (j .stopped) j (record { stopped = opposite (same (d .bytes) m); number = number; blocks = counted j (d .blocks) })
+
+module _ {secret m : Dig} where
+  pub compared-by : {i j k : Judged} {number : ℕ} {s : Says} {d : Digest} {b : Bool} → d ≡ madeOf s secret
+      → Worked i (d .blocks) j → b ≡ same (d .bytes) m → Next j (plain number (opposite b)) k → Compared i number s secret m k
+  unfolding comparing
+  compared-by {i} {number = number} {d = d} e w t n =
+      record {
+        is =
+            n .is ∙ (λ x. afterCheck (w .is x) (plain number (opposite (t x))))
+            ∙ work-then (i .stopped) (i .number) (i .blocks) (d .blocks) number (opposite (same (d .bytes) m))
+            ∙ ap (with-digest i number m) e;
+      }
+
+  module _ {j i : Judged} {s : Says} (going : j .stopped ≡ false) (first : Compared j 8 s secret m i) where
+    as-first : (b : Bool) → i .stopped ≡ b → comparing j 8 s secret m .stopped ≡ b
+    as-first b h = sym (ap (λ (x : Judged). x .stopped) (first .is)) ∙ h
+
+    -- by whether it fitted
+    by-tests : (x i : Judged) (b : Bool) → i .stopped ≡ b → pick (j .stopped) j (pick (i .stopped) x i) ≡ pick b x i
+    by-tests x i b h = ap₂ (λ (c d : Bool). pick c j (pick d x i)) going h
+
+    pub either-first : {t : Says} → i .stopped ≡ false → ComparedEither j s t secret m i
+    unfolding comparingEither
+    either-first h = record { is = first .is ∙ sym (by-tests _ _ false (as-first false h)) }
+
+    pub either-second : {t : Says} {l : Judged} → i .stopped ≡ true
+        → Compared (record { stopped = false; number = 8; blocks = i .blocks }) 8 t secret m l → ComparedEither j s t secret m l
+    unfolding comparingEither
+    either-second {t} h second =
+        record {
+          is =
+              second .is
+              ∙ ap (λ (x : Judged). comparing (record { stopped = false; number = 8; blocks = x .blocks }) 8 t secret m) (first .is)
+              ∙ sym (by-tests _ _ true (as-first true h));
+        }
+
+pub issued-by : {r : Registers} {j k : Judged} {first : ℕ} {s : Says} {d : Digest} {o : Outcome} → j .stopped ≡ false
+    → d ≡ madeOf s (r .secret) → Worked j (d .blocks) k → o ≡ acceptance r first (d .bytes) (k .blocks) → Issued r j first s o
+unfolding issuing afterWork
+issued-by {r} {j} {first = first} {d = d} going e w o =
+    let n : afterWork j (d .blocks) .blocks ≡ counted j (d .blocks) = rw going refl in
+    record {
+      is =
+          o ∙ ap (acceptance r first (d .bytes)) (ap (λ (x : Judged). x .blocks) (w .is) ∙ n)
+          ∙ ap (λ (x : Digest). acceptance r first (x .bytes) (counted j (x .blocks))) e ∙ rw going refl;
+    }
 
 -- what a memorandum says, of digests that were worked
 pub spoken-as : {s : Says} {t t′ : Memo} → Spoken s t → t ≡ t′ → Spoken s t′
 spoken-as {s} p e = subst (Spoken s) e p
 
--- a check made is made whatever memorandum it is said to compare
-abbrev shown : (m : Dig) → Check → Check
-shown m c = record { number = c .number; fails = c .fails; forms = c .forms; compares = m ∷ [] }
-
-showing : {j k : Judged} {c : Check} (m : Dig) → Next j c k → Next j (shown m c) k
-unfolding afterCheck
-showing m e = record { is = e .is }
-
 module _ (secret m : Dig) where
-  compared-by : (number : ℕ) (t : Memo) (b : Bool)
-      → _≡_ {A = Check} (shown m (behind (memorandumForms sha256 t secret) (plain number (opposite b))))
-      (record {
+  -- the check of one memorandum, and of one of two, by whether the first fits
+  abbrev one : (number : ℕ) → Memo → Bool → Check
+  one number t b =
+      record {
         number = number;
         fails = pick b false true;
         forms = memorandumForms sha256 t secret ++ pick b [] [];
         compares = m ∷ [];
-      })
-  compared-by number t true = refl
-  compared-by number t false = refl
+      }
 
-  pub compared : {i j k : Judged} {number : ℕ} (t : Memo) {d : Dig} (b : Bool)
-      → Formed i (memorandumForms sha256 t secret) j → Next j (plain number (opposite b)) k
-      → d ≡ memorandum sha256 t secret → b ≡ same d m → Next i (memoCheck number secret (t ∷ []) m) k
-  compared {number = number} t b f g e h =
-      let fits : Bool = same (memorandum sha256 t secret) m in
-      same-check (showing m (joined f g))
-      (ap (λ (x : Bool). shown m (behind (memorandumForms sha256 t secret) (plain number (opposite x))))
-      (h ∙ ap (λ (x : Dig). same x m) e) ∙ compared-by number t fits)
+  abbrev two : (t t′ : Memo) → Bool → Check
+  two t t′ b =
+      record {
+        number = 8;
+        fails = pick b false (noneFits sha256 secret (t′ ∷ []) m);
+        forms = memorandumForms sha256 t secret ++ pick b [] (tried sha256 secret (t′ ∷ []) m);
+        compares = m ∷ [];
+      }
 
-  -- one that may say one of two things
+  one-by : (b d : Bool) (n k number : ℕ) (t : Memo)
+      → let j : Judged = record { stopped = d; number = n; blocks = k } in
+      pick d j (record { stopped = opposite b; number = number; blocks = counted j (cost (memorandumForms sha256 t secret)) })
+      ≡ afterCheck j (one number t b)
+  unfolding afterCheck
+  one-by b true n k number t = refl
+  one-by true false n k number t = refl
+  one-by false false n k number t = refl
+
+  compared-as : (j : Judged) (number : ℕ) {s : Says} {t : Memo} → Spoken s t
+      → comparing j number s secret m ≡ afterCheck j (memoCheck number secret (t ∷ []) m)
+  unfolding comparing
+  compared-as j number {s} {t} p =
+      ap
+      (λ (d : Digest).
+      pick (j .stopped) j (record { stopped = opposite (same (d .bytes) m); number = number; blocks = counted j (d .blocks) }))
+      (made-of p secret)
+      ∙ one-by (same (memorandum sha256 t secret) m) (j .stopped) (j .number) (j .blocks) number t
+
   module _ (t t′ : Memo) where
-    abbrev first-fits : Bool
-    first-fits = same (memorandum sha256 t secret) m
+    -- the first was tried, and the second where it did not fit
+    either-by : (b d : Bool) (n k : ℕ)
+        → let j : Judged = record { stopped = d; number = n; blocks = k } in
+        let i : Judged = afterCheck j (one 8 t b) in
+        pick d j
+        (pick (i .stopped)
+        (afterCheck (record { stopped = false; number = 8; blocks = i .blocks }) (memoCheck 8 secret (t′ ∷ []) m)) i)
+        ≡ afterCheck j (two t t′ b)
+    unfolding afterCheck
+    either-by b true n k = refl
+    either-by true false n k = refl
+    either-by false false n k =
+        let fs : List Str = memorandumForms sha256 t secret in
+        let gs : List Str = tried sha256 secret (t′ ∷ []) m in
+        let e : ((k + cost (fs ++ [])) % 2 ^ 64 + cost gs) % 2 ^ 64 ≡ (k + cost (fs ++ gs)) % 2 ^ 64 =
+        omega (arith, cost-append fs [], cost-append fs gs) in
+        λ i. record { stopped = noneFits sha256 secret (t′ ∷ []) m; number = 8; blocks = e i }
 
-    abbrev one : Bool → Check
-    one b =
-        record {
-          number = 8;
-          fails = pick b false true;
-          forms = memorandumForms sha256 t secret ++ pick b [] [];
-          compares = m ∷ [];
-        }
+    either-as : (j : Judged) {s s′ : Says} → Spoken s t → Spoken s′ t′
+        → comparingEither j s s′ secret m ≡ afterCheck j (memoCheck 8 secret (t ∷ t′ ∷ []) m)
+    unfolding comparingEither
+    either-as j {s} {s′} p p′ =
+        let i : Judged = comparing j 8 s secret m in
+        let first : (Judged → Judged) = λ (x : Judged). record { stopped = false; number = 8; blocks = x .blocks } in
+        ap (λ (x : Judged). pick (j .stopped) j (pick (i .stopped) x i)) (compared-as (first i) 8 p′)
+        ∙ ap
+        (λ (x : Judged).
+        pick (j .stopped) j (pick (x .stopped) (afterCheck (first x) (memoCheck 8 secret (t′ ∷ []) m)) x))
+        (compared-as j 8 p)
+        ∙ either-by (same (memorandum sha256 t secret) m) (j .stopped) (j .number) (j .blocks)
 
-    abbrev two : Bool → Check
-    two b =
-        record {
-          number = 8;
-          fails = pick b false (noneFits sha256 secret (t′ ∷ []) m);
-          forms = memorandumForms sha256 t secret ++ pick b [] (tried sha256 secret (t′ ∷ []) m);
-          compares = m ∷ [];
-        }
+module _ {secret m : Dig} where
+  pub fits-one : {j k : Judged} {number : ℕ} {s : Says} {t : Memo} → Compared j number s secret m k → Spoken s t
+      → Next j (memoCheck number secret (t ∷ []) m) k
+  fits-one {j} {number = number} c p = record { is = c .is ∙ compared-as secret m j number p }
 
-    fits-first : (b : Bool) → pick b false true ≡ false → one b ≡ two b
-    fits-first true h = refl
-    fits-first false h = cc
-
-    pub either-first : {j i : Judged} → Next j (memoCheck 8 secret (t ∷ []) m) i → i .stopped ≡ false
-        → Next j (memoCheck 8 secret (t ∷ t′ ∷ []) m) i
-    either-first n f = same-check n (fits-first first-fits (held n f))
-
-    fits-second : (b : Bool) → pick b false true ≡ true
-        → (behind (memorandumForms sha256 t secret) (memoCheck 8 secret (t′ ∷ []) m) ≡ two b)
-        × (cost (one b .forms) ≡ cost (memorandumForms sha256 t secret))
-    fits-second true h = (cc, cc)
-    fits-second false h = (refl, refl)
-
-    pub either-second : {j i l : Judged} → j .stopped ≡ false → Next j (memoCheck 8 secret (t ∷ []) m) i → i .stopped ≡ true
-        → Next (record { stopped = false; number = 8; blocks = i .blocks }) (memoCheck 8 secret (t′ ∷ []) m) l
-        → Next j (memoCheck 8 secret (t ∷ t′ ∷ []) m) l
-    either-second {j} {i} {l} e n f n2 =
-        let is = n .is ∙ sym (going {c = memoCheck 8 secret (t ∷ []) m} e refl .is) in
-        let h = fits-second first-fits (sym (ap (λ (x : Judged). x .stopped) is) ∙ f) in
-        let k : i .blocks ≡ counted j (cost (memorandumForms sha256 t secret)) =
-        ap (λ (x : Judged). x .blocks) is ∙ ap (counted j) (h .1) in
-        let resumed : Next (record { stopped = false; number = j .number; blocks = i .blocks }) (memoCheck 8 secret (t′ ∷ []) m) l =
-        same-start n2 in
-        same-check (joined {fs = memorandumForms sha256 t secret} (forming e k) resumed) (h .0)
+  pub fits-either : {j k : Judged} {s s′ : Says} {t t′ : Memo} → ComparedEither j s s′ secret m k → Spoken s t → Spoken s′ t′
+      → Next j (memoCheck 8 secret (t ∷ t′ ∷ []) m) k
+  fits-either {j} {t = t} {t′} c p p′ = record { is = c .is ∙ either-as secret m t t′ j p p′ }
 
 -- ── the end ──
 
@@ -241,11 +294,25 @@ module _ {s : Registers} {j : Judged} {first : ℕ} {after : Registers} {lists :
       → Concludes s i l first after lists forms o
   ran-to r f = record { is = record { is = f .is ∙ ap (λ (x : Judged). ending s x first after lists forms) (r .is) } }
 
+-- an answer that is a memorandum
+pub issues-it : {r : Registers} {j : Judged} {first : ℕ} {s : Says} {t : Memo} {o : Outcome} → Issued r j first s o → Spoken s t
+    → Finished r j first r (memorandum sha256 t (r .secret)) (memorandumForms sha256 t (r .secret)) o
+unfolding issuing ending
+issues-it {r} {j} {first} i p =
+    record {
+      is =
+          i .is
+          ∙ ap
+          (λ (d : Digest).
+          pick (j .stopped) (refusal r (j .number) (j .blocks)) (acceptance r first (d .bytes) (counted j (d .blocks))))
+          (made-of p (r .secret));
+    }
+
 -- strings formed before the answer's are the answer's
 finish-by : (b : Bool) (n k : ℕ) (s : Registers) (first : ℕ) (after : Registers) (lists : List ℕ) (fs gs : List Str)
     → let j : Judged = record { stopped = b; number = n; blocks = k } in
-    ending s (afterForming j fs) first after lists gs ≡ ending s j first after lists (gs ++ fs)
-unfolding afterForming ending
+    ending s (afterWork j (cost fs)) first after lists gs ≡ ending s j first after lists (gs ++ fs)
+unfolding afterWork ending
 finish-by true n k s first after lists fs gs = refl
 finish-by false n k s first after lists fs gs =
     let e : ((k + cost fs) % 2 ^ 64 + cost gs) % 2 ^ 64 ≡ (k + cost (gs ++ fs)) % 2 ^ 64 =
@@ -337,7 +404,7 @@ module _ (s : Registers) (kind : ℕ) (q : Q.Request) where
       rw (k, le-leb (1 + length l) 97 (omega arith), lt-ltb (length l) 97 (omega arith), e)
 
   -- a request whose checks were all made is answered as the paper says
-  concluded : {j : Judged} {o : Outcome} → Ran unjudged (needs sha256 s q) j
+  pub concluded : {j : Judged} {o : Outcome} → Ran unjudged (needs sha256 s q) j
       → let a = answer sha256 s q in
       Finished s j (0x80 + kind) (a .after) (a .lists) (a .forms) o → ceiling q < 2 ^ 64 → length (a .lists) ≤ 96
       → o ≡ outcome s kind q
@@ -349,6 +416,25 @@ module _ (s : Registers) (kind : ℕ) (q : Q.Request) where
       f .is ∙ ap (λ (x : Judged). ending s x (0x80 + kind) (a .after) (a .lists) (a .forms)) (e .is)
       ∙ sym (ends s (0x80 + kind) (a .after) (a .lists) (a .forms) (needs sha256 s q) [] unjudged refl refl .is)
       ∙ ap (ended s (0x80 + kind) (a .after) (a .lists) (a .forms)) (sym (walked s q)) ∙ settled v less room
+
+  -- one of whose checks one failed
+  refused-by : (n b : ℕ) (v : Verdict) → refusal s n b ≡ ended s 0 s [] [] v
+      → cost (told sha256 s kind q v .formed) < 2 ^ 64 → refusal s n b ≡ outcomeOf (told sha256 s kind q v)
+  unfolding answerLength
+  refused-by n b (refused m fs) e h = e ∙ ap (refusal s m) (omega (arith, h))
+  refused-by n b (passed fs) e h = let k : _≡_ {A = ℕ} 2 1 = ap (λ (o : Outcome). o .length) e in cc
+
+  pub refused-as : {j : Judged} → Ran unjudged (needs sha256 s q) j → j .stopped ≡ true → ceiling q < 2 ^ 64
+      → refusal s (j .number) (j .blocks) ≡ outcome s kind q
+  unfolding outcome
+  refused-as {j} e h few =
+      let v : Verdict = judge requestOrder [] (needs sha256 s q) in
+      let less : cost (told sha256 s kind q v .formed) < 2 ^ 64 = omega (arith, few, request-cost sha256 s kind q) in
+      let f : refusal s (j .number) (j .blocks) ≡ ended s 0 s [] [] v =
+      finished-stopped {j = j} {first = 0} {after = s} {lists = []} {forms = []} h .is
+      ∙ ap (λ (x : Judged). ending s x 0 s [] []) (e .is) ∙ sym (ends s 0 s [] [] (needs sha256 s q) [] unjudged refl refl .is)
+      ∙ ap (ended s 0 s [] []) (sym (walked s q)) in
+      refused-by (j .number) (j .blocks) v f less
 
 -- the request that lies in a frame, as it was read
 pub answered : (s : Registers) (kind : ℕ) (f : List ℕ) {q : Q.Request} {j : Judged} {o : Outcome} → q ≡ requestAt kind f

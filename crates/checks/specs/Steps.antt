@@ -4,13 +4,14 @@ use mathlib.Core.Bool.{false}
 use mathlib.Core.Path.{_≡_}
 use mathlib.Core.List.{List, [], _∷_}
 use Prim.Native.Nat.{ℕ, _+_, _%_, _^_}
-use Rattle.seqs.specs.Choose.{pick}
+use Rattle.seqs.specs.Choose.{pick, opposite}
+use Rattle.seqs.specs.Bytes.{same}
 use Rattle.sha256.specs.Hash.{sha256}
 use Rattle.paper.specs.declared.Registers.{Registers}
-use Rattle.paper.specs.Strings.{Dig, Memo, Str, memorandum, memorandumForms, cost}
+use Rattle.paper.specs.Strings.{Dig, Memo, Str, cost}
 use Rattle.paper.specs.Refusals.{Check, noneFits, tried}
 use Rattle.digests.specs.declared.Says.{Says}
-use Rattle.digests.specs.Speaking.{Spoken}
+use Rattle.digests.specs.Speaking.{madeOf}
 use Rattle.replies.specs.declared.Outcome.{Outcome}
 use Rattle.replies.specs.Outcomes.{refusal, acceptance}
 use Rattle.checks.specs.declared.Judged.{Judged}
@@ -32,12 +33,15 @@ afterCheck j c = pick (j .stopped) j (record { stopped = c .fails; number = c .n
 pub record Next (j : Judged) (c : Check) (k : Judged) : Type 0 where
   pub is : k ≡ afterCheck j c
 
--- strings formed, unless a check failed
-unfoldable pub afterForming : Judged → List Str → Judged
-afterForming j fs = pick (j .stopped) j (record { stopped = false; number = j .number; blocks = counted j (cost fs) })
+-- blocks worked, unless a check failed: as many as some strings cost
+unfoldable pub afterWork : Judged → ℕ → Judged
+afterWork j n = pick (j .stopped) j (record { stopped = false; number = j .number; blocks = counted j n })
+
+pub record Worked (j : Judged) (n : ℕ) (k : Judged) : Type 0 where
+  pub is : k ≡ afterWork j n
 
 pub record Formed (j : Judged) (fs : List Str) (k : Judged) : Type 0 where
-  pub is : k ≡ afterForming j fs
+  pub is : k ≡ afterWork j (cost fs)
 
 -- ── some steps ──
 
@@ -62,26 +66,36 @@ pub record Finished (s : Registers) (j : Judged) (first : ℕ) (after : Register
 pub record Concludes (s : Registers) (j : Judged) (l : List Check) (first : ℕ) (after : Registers) (lists : List ℕ) (forms : List Str) (o : Outcome) : Type 0 where
   pub is : Finished s (afterChecks j l) first after lists forms o
 
--- ── what the functions of this crate promise ──
-
--- blocks counted, of whatever strings they are the cost
-abbrev pub Works : Judged → (blocks : ℕ) → Judged → Type 0
-Works j blocks k = (fs : List Str) → blocks ≡ cost fs → Formed j fs k
+-- ── memoranda ──
 
 -- the check that m is the memorandum of one of some things said
 abbrev pub memoCheck : (number : ℕ) (secret : Dig) → List Memo → (m : Dig) → Check
 memoCheck number k ts m =
     record { number = number; fails = noneFits sha256 k ts m; forms = tried sha256 k ts m; compares = m ∷ [] }
 
-abbrev pub ComparesOne : Judged → (number : ℕ) → Says → (secret m : Dig) → Judged → Type 0
-ComparesOne j number s secret m k = (t : Memo) → Spoken s t → Next j (memoCheck number secret (t ∷ []) m) k
+-- What `compare`, `compare_either` and `issue` do with words of any kind. Where the words are a memorandum's, the first two are
+-- a `memoCheck`, and the third is the answer with that memorandum (`proofs/Steps`: `fits-one`, `fits-either`, `issues-it`).
+unfoldable pub comparing : Judged → (number : ℕ) → Says → (secret m : Dig) → Judged
+comparing j number s k m =
+    pick (j .stopped) j
+    (record { stopped = opposite (same (madeOf s k .bytes) m); number = number; blocks = counted j (madeOf s k .blocks) })
 
-abbrev pub ComparesEither : Judged → Says → Says → (secret m : Dig) → Judged → Type 0
-ComparesEither j s s′ secret m k =
-    (t t′ : Memo) → Spoken s t → Spoken s′ t′ → Next j (memoCheck 8 secret (t ∷ t′ ∷ []) m) k
+pub record Compared (j : Judged) (number : ℕ) (s : Says) (secret m : Dig) (k : Judged) : Type 0 where
+  pub is : k ≡ comparing j number s secret m
 
--- the memorandum of what is said as the answer
-abbrev pub IssuesMemo : Registers → Judged → (first : ℕ) → Says → Outcome → Type 0
-IssuesMemo r j first s o =
-    (t : Memo) → Spoken s t
-    → Finished r j first r (memorandum sha256 t (r .secret)) (memorandumForms sha256 t (r .secret)) o
+unfoldable pub comparingEither : Judged → Says → Says → (secret m : Dig) → Judged
+comparingEither j s t k m =
+    let i = comparing j 8 s k m in
+    let resumed : Judged = record { stopped = false; number = 8; blocks = i .blocks } in
+    pick (j .stopped) j (pick (i .stopped) (comparing resumed 8 t k m) i)
+
+pub record ComparedEither (j : Judged) (s t : Says) (secret m : Dig) (k : Judged) : Type 0 where
+  pub is : k ≡ comparingEither j s t secret m
+
+unfoldable pub issuing : Registers → Judged → (first : ℕ) → Says → Outcome
+issuing r j first s =
+    let d = madeOf s (r .secret) in
+    pick (j .stopped) (refusal r (j .number) (j .blocks)) (acceptance r first (d .bytes) (counted j (d .blocks)))
+
+pub record Issued (r : Registers) (j : Judged) (first : ℕ) (s : Says) (o : Outcome) : Type 0 where
+  pub is : o ≡ issuing r j first s

@@ -8,7 +8,7 @@ ghost use Rattle.sha256.specs.Hash.{sha256};
 ghost use Rattle.paper.specs.Strings as S;
 ghost use Rattle.paper.specs.Refusals.{leafOf, leafForms};
 ghost use Rattle.digests.specs.Worked.{worked, hashed};
-ghost use Rattle.digests.specs.Speaking.{AllWhole, SaidAs, Spoken, MadeOf};
+ghost use Rattle.digests.specs.Speaking.{AllWhole, SaidAs, Spoken, madeOf};
 
 // A digest, and the blocks worked for it.
 pub struct Digest {
@@ -74,7 +74,7 @@ pub fn ei(y: [u8; 32], yn: [u8; 32]) -> Says
 
 // How a memorandum is made of what it says and the secret: here and nowhere else.
 pub fn memorandum(s: Says, secret: [u8; 32]) -> Digest
-    ensures { λ d. ⌜ MadeOf s secret d ⌝ }
+    ensures { λ d. ⌜ d ≡ madeOf s secret ⌝ }
 {
     let n = s.length as usize;
     let mut bytes = s.bytes;

@@ -1,13 +1,54 @@
 // One frame on registers by value: the frame's own checks, and the function of its kind.
 use fields::byte_at;
+use fields::digest_at;
+use fields::number_at;
+use paper::BEFORE_SIBLINGS;
+use paper::MOST_SIBLINGS;
 use paper::Registers;
+use places::FIELDS;
+use places::digest;
 use replies::Outcome;
 ghost use mathlib.Core.Bool.{true};
 ghost use mathlib.Core.Path.{_≡_};
+ghost use Prim.Native.Nat.{_*_, _≤_};
+ghost use lib.ListN.{getD, take};
 ghost use Rattle.sha256.specs.Hash.{sha256};
-ghost use Rattle.paper.specs.Requests.{kindOf, known, fits, requestOf};
+ghost use Rattle.paper.specs.Requests.{digestsIn, kindOf, known, fits, requestOf};
 ghost use Rattle.paper.specs.Module.{answerFrame};
 ghost use Rattle.replies.specs.Outcomes.{outcomeOf, outcome};
+ghost use Rattle.places.specs.Places.{bytesAt, requestAt};
+
+// The n siblings of a path over the front of the array.
+fn siblings(f: &[u8], n: usize) -> [[u8; 32]; MOST_SIBLINGS]
+    requires { ⌜ n ≤ 64 ⌝ }
+    ensures { λ r. ⌜ take n r ≡ digestsIn n (bytesAt (now (f .entry)) 74 (32 * n)) ⌝ }
+{
+    let mut out = [[0u8; 32]; MOST_SIBLINGS];
+    let mut i: usize = 0;
+    while i < n {
+        let d = digest_at(f, BEFORE_SIBLINGS + 32 * i);
+        out[i] = d;
+        i += 1;
+    }
+    out
+}
+
+// A path's frame: its siblings go by value, and they fit the array where the frame fits its kind.
+fn path(r: Registers, f: &[u8]) -> Outcome
+    requires { ⌜ getD (now f) 65 0 ≤ 64 ⌝ }
+    ensures { λ o. ⌜ o ≡ outcome r 1 (requestAt 1 (now (f .entry))) ⌝ }
+{
+    let n = byte_at(f, 65) as usize;
+    let s = siblings(f, n);
+    tree_kinds::path(
+        r,
+        digest(f, FIELDS, 0),
+        digest(f, FIELDS, 1),
+        n,
+        number_at(f, 66),
+        s,
+    )
+}
 
 // The function of each kind, for a frame that passes its own checks.
 fn dispatch(r: Registers, f: &[u8]) -> Outcome
@@ -16,7 +57,7 @@ fn dispatch(r: Registers, f: &[u8]) -> Outcome
 {
     let kind = byte_at(f, 0);
     match kind {
-        1 => tree_kinds::path(r, f),
+        1 => path(r, f),
         2 => tree_kinds::witness(r, f),
         3 => tree_kinds::join(r, f),
         4 => tree_kinds::pair(r, f),

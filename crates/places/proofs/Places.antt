@@ -3,7 +3,6 @@ use mathlib.Core.Path.{_≡_, refl, sym, ap, ap₂, _∙_}
 use mathlib.Core.Bool.{true}
 use mathlib.Core.List.{List, [], _∷_, _++_}
 use Prim.Native.Nat.{ℕ, zero, suc, _+_, _*_, _<_, _≤_}
-use native.Mathlib.Nat.{not-suc-le-zero, le-of-suc-le-suc}
 use native.Mathlib.Omega.{arith}
 use borrow.Author.Tests.{eqb-true}
 use lib.ListN.{length, getD, take, drop, replicate, length-take, length-drop}
@@ -23,18 +22,6 @@ use Rattle.places.specs.Places.{bytesAt, partAt, requestAt}
 -- the answer to a call that asks nothing
 pub free : {A B : Type 0} → A → B → Unit {0}
 free c κs = tt
-
--- n digests one behind the other: their count, and one of them
-digests-count : (n : ℕ) (l : List ℕ) → length (digestsIn n l) ≡ n
-digests-count zero l = refl
-digests-count (suc n) l = ap suc (digests-count n (drop 32 l))
-
-digest-of : (n : ℕ) (l : List ℕ) (i : ℕ) → i < n → getD (digestsIn n l) i [] ≡ take 32 (drop (32 * i) l)
-digest-of zero l i h = absurd (not-suc-le-zero h)
-digest-of (suc n) l zero h = refl
-digest-of (suc n) l (suc i) h =
-    let k : 32 + 32 * i ≡ 32 * suc i = omega arith in
-    digest-of n (drop 32 l) i (le-of-suc-le-suc h) ∙ ap (take 32) (drop-drop (32 * i) 32 l ∙ ap (λ (m : ℕ). drop m l) k)
 
 module _ (f : List ℕ) where
   -- ── a frame that fits ──
@@ -117,21 +104,19 @@ module _ (f : List ℕ) where
   pub sides-inside : numberAt f 66 ≡ sidesIn (bytesAt f 65 (takes aPath (drop 65 f)))
   sides-inside = number-inside 65 (takes aPath (drop 65 f)) 1 (omega arith)
 
-  pub siblings-inside : siblingsIn (bytesAt f 65 (takes aPath (drop 65 f)))
-      ≡ digestsIn (getD f 65 0) (bytesAt f 74 (32 * getD f 65 0))
-  siblings-inside =
+  pub siblings-inside : (n : ℕ) → n ≡ getD f 65 0
+      → digestsIn n (bytesAt f 74 (32 * n)) ≡ siblingsIn (bytesAt f 65 (takes aPath (drop 65 f)))
+  siblings-inside n e =
       let m : ℕ = countIn (drop 65 f) in
-      let byte : m ≡ getD f 65 0 = getD-drop 65 f 0 0 in
-      let count : countIn (bytesAt f 65 (9 + 32 * m)) ≡ m = byte-there 65 (9 + 32 * m) 0 (omega arith) ∙ sym byte in
-      ap₂ digestsIn count (behind 65 9 (32 * m)) ∙ ap (λ (k : ℕ). digestsIn k (bytesAt f 74 (32 * k))) byte
+      let byte : getD f 65 0 ≡ m = sym (getD-drop 65 f 0 0) in
+      let count : countIn (bytesAt f 65 (9 + 32 * m)) ≡ m = byte-there 65 (9 + 32 * m) 0 (omega arith) ∙ byte in
+      ap (λ (k : ℕ). digestsIn k (bytesAt f 74 (32 * k))) (e ∙ byte) ∙ sym (ap₂ digestsIn count (behind 65 9 (32 * m)))
 
-  -- one of them
-  pub sibling-inside : (i : ℕ) → i < getD f 65 0
-      → getD (siblingsIn (bytesAt f 65 (takes aPath (drop 65 f)))) i [] ≡ digestAt f (74 + 32 * i)
-  sibling-inside i h =
-      let n : ℕ = getD f 65 0 in
-      ap (λ (l : List Dig). getD l i []) siblings-inside ∙ digest-of n (bytesAt f 74 (32 * n)) i h
-      ∙ sym (digest-inside 74 (32 * n) (32 * i) (omega arith))
-
-  pub siblings-count : length (siblingsIn (bytesAt f 65 (takes aPath (drop 65 f)))) ≡ getD f 65 0
-  siblings-count = ap length siblings-inside ∙ digests-count (getD f 65 0) (bytesAt f 74 (32 * getD f 65 0))
+-- one digest more
+pub digests-next : (n : ℕ) (l : List ℕ) → digestsIn (suc n) l ≡ digestsIn n l ++ (take 32 (drop (32 * n) l) ∷ [])
+digests-next zero l = refl
+digests-next (suc n) l =
+    let k : 32 + 32 * n ≡ 32 * suc n = omega arith in
+    let e : drop (32 * n) (drop 32 l) ≡ drop (32 * suc n) l = drop-drop (32 * n) 32 l ∙ ap (λ (k : ℕ). drop k l) k in
+    ap (λ (ds : List Dig). take 32 l ∷ ds) (digests-next n (drop 32 l))
+    ∙ ap (λ (m : List ℕ). take 32 l ∷ digestsIn n (drop 32 l) ++ (take 32 m ∷ [])) e

@@ -25,8 +25,8 @@ ghost use lib.Dec.{eqb};
 ghost use Rattle.seqs.specs.Choose.{either};
 ghost use Rattle.paper.specs.Strings as S;
 ghost use Rattle.paper.specs.Answers.{findingOf, findingBytes};
-ghost use Rattle.replies.specs.Outcomes.{outcome};
-ghost use Rattle.checks.specs.Steps.{Finished, Concludes};
+ghost use Rattle.replies.specs.Outcomes.{outcome, acceptance};
+ghost use Rattle.checks.specs.Steps.{Concludes};
 ghost use Rattle.places.specs.Places.{requestAt};
 ghost use Rattle.question_kinds.specs.Questions.{askEnds};
 
@@ -43,58 +43,75 @@ pub fn ask_none(r: Registers, f: &[u8]) -> Outcome
     finish(r, j, 0x8f, r, &n)
 }
 
-// What the leaf of a, b and a record says of q: exactly one of three findings.
-fn find(q: Item, a: Item, b: Item, rec: Record) -> Finding
-    ensures { λ o. ⌜ o ≡ findingOf (q .0) (a .0) (b .0) rec ⌝ }
+// An ask's reply: exactly one of three findings, and the blocks worked for it.
+struct AskReply {
+    finding: Finding,
+    blocks: u64,
+}
+
+// What the leaf of a, b and a record says of q.
+fn find(q: Item, a: Item, b: Item, rec: Record, blocks: u64) -> AskReply
+    ensures { λ o. ⌜ (o .finding ≡ findingOf (q .0) (a .0) (b .0) rec) × (o .blocks ≡ blocks) ⌝ }
 {
     if q.0 == a.0 {
         if records::is_blank(rec) {
-            return Finding::Listed(a);
+            return AskReply {
+                finding: Finding::Listed(a),
+                blocks: blocks,
+            };
         }
-        return Finding::Recorded(a, rec);
+        return AskReply {
+            finding: Finding::Recorded(a, rec),
+            blocks: blocks,
+        };
     }
-    Finding::Gap(a, b)
+    AskReply {
+        finding: Finding::Gap(a, b),
+        blocks: blocks,
+    }
 }
 
-fn say_recorded(r: Registers, j: Judged, a: Item, rec: Record) -> Outcome
-    ensures { λ o. ⌜ Finished r j 0x8e r (findingBytes (Finding.Recorded a rec)) [] o ⌝ }
+fn say_recorded(r: Registers, a: Item, rec: Record, blocks: u64) -> Outcome
+    ensures { λ o. ⌜ o ≡ acceptance r 0x8e (findingBytes (Finding.Recorded a rec)) blocks ⌝ }
 {
     let mut s = [1u8; 41];
     let na = fields::spelled(a.0);
     let nr = records::record_bytes(rec);
     fields::put(&mut s, 1, &na);
     fields::put(&mut s, 9, &nr);
-    finish(r, j, 0x8e, r, &s)
+    replies::accept(r, 0x8e, &s, blocks)
 }
 
-fn say_listed(r: Registers, j: Judged, a: Item) -> Outcome
-    ensures { λ o. ⌜ Finished r j 0x8e r (findingBytes (Finding.Listed a)) [] o ⌝ }
+fn say_listed(r: Registers, a: Item, blocks: u64) -> Outcome
+    ensures { λ o. ⌜ o ≡ acceptance r 0x8e (findingBytes (Finding.Listed a)) blocks ⌝ }
 {
     let mut s = [2u8; 9];
     let na = fields::spelled(a.0);
     fields::put(&mut s, 1, &na);
-    finish(r, j, 0x8e, r, &s)
+    replies::accept(r, 0x8e, &s, blocks)
 }
 
-fn say_gap(r: Registers, j: Judged, a: Item, b: Item) -> Outcome
-    ensures { λ o. ⌜ Finished r j 0x8e r (findingBytes (Finding.Gap a b)) [] o ⌝ }
+fn say_gap(r: Registers, a: Item, b: Item, blocks: u64) -> Outcome
+    ensures { λ o. ⌜ o ≡ acceptance r 0x8e (findingBytes (Finding.Gap a b)) blocks ⌝ }
 {
     let mut s = [3u8; 17];
     let na = fields::spelled(a.0);
     let nb = fields::spelled(b.0);
     fields::put(&mut s, 1, &na);
     fields::put(&mut s, 9, &nb);
-    finish(r, j, 0x8e, r, &s)
+    replies::accept(r, 0x8e, &s, blocks)
 }
 
-// Refused by the check that failed, or answered with a finding.
-fn say(r: Registers, j: Judged, found: Finding) -> Outcome
-    ensures { λ o. ⌜ Finished r j 0x8e r (findingBytes found) [] o ⌝ }
+// An ask's reply as its bytes.
+fn say(r: Registers, o: AskReply) -> Outcome
+    ensures { λ s. ⌜ s ≡ acceptance r 0x8e (findingBytes (o .finding)) (o .blocks) ⌝ }
 {
-    match found {
-        Finding::Recorded(a, rec) => say_recorded(r, j, a, rec),
-        Finding::Listed(a) => say_listed(r, j, a),
-        Finding::Gap(a, next) => say_gap(r, j, a, next),
+    let blocks = o.blocks;
+    let f = o.finding;
+    match f {
+        Finding::Recorded(a, rec) => say_recorded(r, a, rec, blocks),
+        Finding::Listed(a) => say_listed(r, a, blocks),
+        Finding::Gap(a, next) => say_gap(r, a, next, blocks),
     }
 }
 
@@ -130,7 +147,11 @@ fn ask_leaf(
     let present = r.root;
     let j8 = compare(work(j, l.blocks), 8, v1(x, y), secret, m);
     let j10 = refuse_stale(j8, y, present);
-    say(r, j10, find(q, a, b, rec))
+    if j10.stopped {
+        return replies::refuse(r, j10.number, j10.blocks);
+    }
+    let o = find(q, a, b, rec, j10.blocks);
+    say(r, o)
 }
 
 const ASK_RECORD: u16 = FIELDS + 3 * NUMBER;

@@ -1,13 +1,13 @@
 -- One level of a path's fold, its end, and what a parent and a level cost.
-use mathlib.Core.Path.{_≡_, refl}
+use mathlib.Core.Path.{_≡_, refl, sym, _∙_}
 use mathlib.Core.Bool.{Bool, true, false}
 use mathlib.Core.List.{List, [], _∷_}
-use Prim.Native.Nat.{ℕ, suc, _+_, _/_, _%_, _<_, _≤_}
+use Prim.Native.Nat.{ℕ, suc, _+_, _*_, _/_, _%_, _^_, _<_, _≤_}
 use native.Mathlib.Numerals.{add-one}
 use native.Mathlib.Omega.{arith}
 use lib.Dec.{eqb}
-use lib.ListN.{length, getD, drop, drop-of-length-le}
-use lib.Seq.{drop-cons}
+use lib.ListN.{length, getD, take, drop, drop-of-length-le, length-take}
+use lib.Seq.{drop-cons, take-all}
 use Rattle.seqs.specs.Choose.{pick}
 use Rattle.seqs.specs.Bytes.{allZero}
 use Rattle.sha256.specs.Hash.{sha256}
@@ -52,3 +52,11 @@ up-end u bits l i h = rw (drop-of-length-le l h)
 
 pub forms-end : (u : Dig) (bits : ℕ) (l : List Dig) (i : ℕ) → length l ≤ i → cost (foldForms sha256 u bits (drop i l)) ≡ 0
 forms-end u bits l i h = rw (drop-of-length-le l h)
+
+-- more siblings than there are are all of them
+pub take-more : (l : List Dig) (n : ℕ) → length l ≡ 64 → 64 < n → take 64 l ≡ take n l
+take-more l n h k = take-all 64 l (omega arith) ∙ sym (take-all n l (omega arith))
+
+-- the ceiling of a path of at most 64 levels
+pub few-levels : (l : List Dig) (n : ℕ) → n ≤ 64 → 4 * length (take n l) + 3 < 2 ^ 64
+few-levels l n h = simp length-take (omega arith)

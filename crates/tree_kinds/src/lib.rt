@@ -1,4 +1,5 @@
-// Kinds 01 to 05: what stands above what in the tree. Each function answers a frame of its kind, on registers by value.
+// Kinds 01 to 05: what stands above what in the tree. Each function answers a frame of its kind, on registers by value; only
+// path takes its fields, as its siblings come in an array that not every frame's n fits.
 use checks::Judged;
 use checks::begin_open;
 use checks::compare;
@@ -9,7 +10,7 @@ use digests::Digest;
 use digests::u1;
 use digests::u2;
 use digests::v1;
-use paper::BEFORE_SIBLINGS;
+use paper::MOST_SIBLINGS;
 use paper::Registers;
 use places::FIELDS;
 use places::digest;
@@ -18,12 +19,14 @@ ghost use mathlib.Core.Path.{_≡_};
 ghost use mathlib.Core.List.{_∷_, _++_};
 ghost use Prim.Native.Nat.{_≤_};
 ghost use Rattle.sha256.specs.Hash.{sha256};
+ghost use lib.ListN.{take};
 ghost use Rattle.paper.specs.Strings as S;
+ghost use Rattle.paper.specs.Requests as Q;
 ghost use Rattle.digests.specs.Worked.{worked};
 ghost use Rattle.replies.specs.Outcomes.{outcome};
 ghost use Rattle.checks.specs.Steps.{Finished};
 ghost use Rattle.places.specs.Places.{requestAt};
-ghost use Rattle.tree_kinds.specs.Paths.{sidesOf, siblingsOf, pairSays};
+ghost use Rattle.tree_kinds.specs.Pairs.{pairSays};
 
 // One level up, from u with its sibling s; bit is 1 if the sibling stands on the left.
 fn level(u: [u8; 32], s: [u8; 32], bit: u64) -> Digest
@@ -36,18 +39,18 @@ fn level(u: [u8; 32], s: [u8; 32], bit: u64) -> Digest
     }
 }
 
-// x folded up the path of a frame, level by level, the lowest sibling first.
-fn fold(x: [u8; 32], f: &[u8]) -> Digest
-    ensures { λ d. ⌜ d ≡ worked (S.foldUp sha256 x (sidesOf (now (f .entry))) (siblingsOf (now (f .entry))))
-        (S.foldForms sha256 x (sidesOf (now (f .entry))) (siblingsOf (now (f .entry)))) ⌝ }
+// The first n siblings folded level by level, the lowest first.
+fn fold(x: [u8; 32], siblings: [[u8; 32]; MOST_SIBLINGS], n: usize, sides: u64) -> Digest
+    requires { ⌜ n ≤ 64 ⌝ }
+    ensures { λ d. ⌜ (d ≡ worked (S.foldUp sha256 x sides (take n siblings)) (S.foldForms sha256 x sides (take n siblings)))
+        × (d .blocks ≤ 128) ⌝ }
 {
-    let n = fields::byte_at(f, 65) as usize;
     let mut u = x;
     let mut b: u64 = 0;
-    let mut bits = fields::number_at(f, 66);
+    let mut bits = sides;
     let mut i: usize = 0;
     while i < n {
-        let s = fields::digest_at(f, BEFORE_SIBLINGS + 32 * i);
+        let s = siblings[i];
         let d = level(u, s, bits % 2);
         u = d.bytes;
         b = b + d.blocks;
@@ -71,18 +74,23 @@ fn path_lists(y: [u8; 32], yn: [u8; 32], m: [u8; 32]) -> [u8; 96]
     s
 }
 
-// 01: x, x', n, sides and n siblings; answers y, y' and U1(x,y,x',y'), y and y' being x and x' folded up the path.
-pub fn path(r: Registers, f: &[u8]) -> Outcome
-    ensures { λ o. ⌜ o ≡ outcome r 1 (requestAt 1 (now (f .entry))) ⌝ }
+fn path_of(
+    r: Registers,
+    x: [u8; 32],
+    xn: [u8; 32],
+    n: usize,
+    sides: u64,
+    siblings: [[u8; 32]; MOST_SIBLINGS],
+) -> Outcome
+    requires { ⌜ n ≤ 64 ⌝ }
+    ensures { λ o. ⌜ o ≡ outcome r 1 (Q.path x xn sides (take n siblings)) ⌝ }
 {
     let j = begin_open(r);
     if j.stopped {
         return replies::refuse(r, j.number, j.blocks);
     }
-    let x = digest(f, FIELDS, 0);
-    let xn = digest(f, FIELDS, 1);
-    let up = fold(x, f);
-    let upn = fold(xn, f);
+    let up = fold(x, siblings, n, sides);
+    let upn = fold(xn, siblings, n, sides);
     let y = up.bytes;
     let yn = upn.bytes;
     let secret = r.secret;
@@ -91,6 +99,24 @@ pub fn path(r: Registers, f: &[u8]) -> Outcome
     let lists = path_lists(y, yn, m);
     let worked = work(work(work(j, up.blocks), upn.blocks), u.blocks);
     finish(r, worked, 0x81, r, &lists)
+}
+
+// 01: x, x', n, sides and n siblings, read already; folds x and x' up the path of the first n siblings, all of them where there
+// are fewer; answers y, y' and U1(x,y,x',y').
+pub fn path(
+    r: Registers,
+    x: [u8; 32],
+    xn: [u8; 32],
+    n: usize,
+    sides: u64,
+    siblings: [[u8; 32]; MOST_SIBLINGS],
+) -> Outcome
+    ensures { λ o. ⌜ o ≡ outcome r 1 (Q.path x xn sides (take n siblings)) ⌝ }
+{
+    if 64 < n {
+        return path_of(r, x, xn, 64, sides, siblings);
+    }
+    path_of(r, x, xn, n, sides, siblings)
 }
 
 // 02: x, y, m; m is U1(x,y,x,y); answers V1(x,y).

@@ -1,10 +1,10 @@
 -- After i turns the tag and the first i digests stand over the front of the array.
-use mathlib.Core.Path.{_≡_, refl, ap, subst, _∙_}
+use mathlib.Core.Path.{_≡_, refl, sym, ap, subst, _∙_}
 use mathlib.Core.List.{List, [], _∷_}
-use Prim.Native.Nat.{ℕ, _+_, _-_, _*_, _≤_}
+use Prim.Native.Nat.{ℕ, suc, _+_, _-_, _*_, _≤_}
 use native.Mathlib.Omega.{arith}
-use lib.ListN.{length, take, replicate, getD, length-append, length-drop}
-use lib.Seq.{take-at, take-all}
+use lib.ListN.{length, take, drop, replicate, getD, length-append, length-drop}
+use lib.Seq.{take-at, drop-at, take-all}
 use Rattle.seqs.specs.Over.{Front, front-next}
 use Rattle.paper.specs.Strings.{Dig, digs, spread}
 use Rattle.digests.proofs.Speaking.{whole-at, one-more}
@@ -44,10 +44,17 @@ whole : (c : tie.In-loop Inv-loop μ-loop)
     → length (getD (c .before .before .args .parts .now) (c .before .loop .i) []) ≡ 32
 whole c = let start = c .before .before in whole-at (start .args .parts .now) (start .pre .1) (c .before .loop .i) (omega arith)
 
+-- what stands behind the first element does not show the first
+behind-first : (a b : ℕ) (l : List ℕ) (n : ℕ) → drop (1 + n) (a ∷ l) ≡ drop (1 + n) (b ∷ l)
+behind-first a b l n =
+    let e : 1 + n ≡ suc n = omega arith in
+    ap (λ (m : ℕ). drop m (a ∷ l)) e ∙ sym (ap (λ (m : ℕ). drop m (b ∷ l)) e)
+
 returns : tie.Need-returns Inv-loop μ-loop
 returns c =
     let start = c .before .before in
     let parts = start .args .parts .now in
+    let tag = start .args .tag in
     let k = c .before .loop in
     let all : k .i ≡ length parts = omega arith in
     let e = k .inv .2 in
@@ -56,6 +63,10 @@ returns c =
       here =
           ap (take (1 + 32 * k .i)) (e .here) ∙ take-at _ _ (1 + 32 * k .i) (e .long)
           ∙ ap (λ (l : List Dig). start .args .tag ∷ spread (digs l)) whole;
+      rest =
+          ap (drop (1 + 32 * k .i)) (e .here)
+          ∙ drop-at (tag ∷ spread (digs (take (k .i) parts))) (drop (1 + 32 * k .i) (tag ∷ replicate 286 0)) (1 + 32 * k .i) (e .long)
+          ∙ behind-first tag 0 (replicate 286 0) (32 * k .i);
       long = ap (λ (n : ℕ). 1 + 32 * n) all;
     }
 

@@ -1,7 +1,7 @@
 -- The kind's row of the table, check by check.
 use native.Mathlib.Omega.{arith}
 use Rattle.paper.specs.Requests as Q
-use Rattle.checks.proofs.Steps.{step, last, answered}
+use Rattle.checks.proofs.Steps.{step, last, answered, fits-one}
 use Rattle.places.specs.Places.{bytesAt, requestAt}
 use Rattle.places.proofs.Places.{free}
 use borrow.Author.Needs.{needs}
@@ -22,7 +22,7 @@ returns c =
     answered (start .args .r) 11 (start .args .f .now)
     (λ i. Q.adopt (y .digest .ensures i) (next .digest2 .ensures i) (m .digest3 .ensures i))
     (step (opened .begin-open .ensures)
-    (step (compared .compare .ensures _ (due .ei .ensures)) (last (ten .refuse-stale .ensures))))
+    (step (fits-one (compared .compare .ensures) (due .ei .ensures)) (last (ten .refuse-stale .ensures))))
     (c .finish .ensures) (omega arith)
 
 pub adopt-spec : {M : Type 1} → statement M

@@ -13,7 +13,7 @@ use Rattle.paper.specs.Answers.{raised}
 use Rattle.digests.specs.Worked.{worked}
 use Rattle.digests.proofs.Fit.{bytes-of, blocks-of}
 use Rattle.checks.specs.Steps.{afterChecks, ending, Concludes}
-use Rattle.checks.proofs.Steps.{step, last, still, held, both-formed, joined, spoken-as, finished-stopped, finished-as, lists-as, ran-to}
+use Rattle.checks.proofs.Steps.{step, last, still, held, both-formed, joined, spoken-as, finished-stopped, finished-as, lists-as, ran-to, formed, fits-one}
 use Rattle.places.proofs.Places.{free}
 use Rattle.list_kinds.specs.Changes.{recordAfter, changeChecks}
 use borrow.Author.Needs.{needs}
@@ -70,9 +70,9 @@ returns-2 c =
     step (seven .refuse-if .ensures)
     (step
     (joined
-    (both-formed (worked1 .work .ensures (leafForms sha256 A A′ before) (blocks-of x))
-    (worked2 .work2 .ensures (leafForms sha256 A A′ after) (blocks-of xn)))
-    (eight .compare .ensures _ (spoken-as (due .u1 .ensures) says)))
+    (both-formed (formed (leafForms sha256 A A′ before) (worked1 .work .ensures) (blocks-of x))
+    (formed (leafForms sha256 A A′ after) (worked2 .work2 .ensures) (blocks-of xn)))
+    (fits-one (eight .compare .ensures) (spoken-as (due .u1 .ensures) says)))
     (last (ten .refuse-stale .ensures))) in
     let done = ran-to checks (lists-as (c .finish .ensures) (listed .root-and-counter .ensures)) in
     record {

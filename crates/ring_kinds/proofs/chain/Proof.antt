@@ -1,7 +1,7 @@
 -- The kind's row of the table, check by check.
 use native.Mathlib.Omega.{arith}
 use Rattle.paper.specs.Requests as Q
-use Rattle.checks.proofs.Steps.{step, last, answered}
+use Rattle.checks.proofs.Steps.{step, last, answered, fits-one, issues-it}
 use Rattle.places.specs.Places.{bytesAt, requestAt}
 use Rattle.places.proofs.Places.{free}
 use Rattle.ring_kinds.proofs.chain.Statement.{statement}
@@ -26,8 +26,8 @@ returns c =
     (λ i.
     Q.chain (x .digest .ensures i) (y .digest2 .ensures i) (m1 .digest3 .ensures i) (z .digest4 .ensures i) (m2 .digest5 .ensures i))
     (step (opened .begin-open .ensures)
-    (step (first .compare .ensures _ (due1 .ei .ensures)) (last (second .compare2 .ensures _ (due2 .ei2 .ensures)))))
-    (c .issue .ensures _ (said .ei3 .ensures)) (omega arith)
+    (step (fits-one (first .compare .ensures) (due1 .ei .ensures)) (last (fits-one (second .compare2 .ensures) (due2 .ei2 .ensures)))))
+    (issues-it (c .issue .ensures) (said .ei3 .ensures)) (omega arith)
 
 pub chain-spec : {M : Type 1} → statement M
 chain-spec = tie.close (tie.spec free free free free free free free free free free free free returns)

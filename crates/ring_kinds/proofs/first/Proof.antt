@@ -5,7 +5,7 @@ use Rattle.paper.specs.Strings.{Dig, nought, ei}
 use Rattle.paper.specs.Requests as Q
 use Rattle.digests.proofs.Fit.{bytes-of, blocks-of}
 use Rattle.checks.specs.Steps.{unjudged, Ran}
-use Rattle.checks.proofs.Steps.{step, last, spoken-as, finished-stopped, finished-as, finish-joined, answered}
+use Rattle.checks.proofs.Steps.{step, last, spoken-as, finished-stopped, finished-as, finish-joined, answered, formed, issues-it}
 use Rattle.places.specs.Places.{bytesAt, requestAt}
 use Rattle.places.proofs.Places.{free}
 use Rattle.ring_kinds.proofs.first.Statement.{statement}
@@ -40,8 +40,8 @@ returns-2 c =
     let l = only .leaf .ensures in
     answered (start zero .args .r) 7 (start zero .args .f .now) (λ i. Q.first (a zero .item .ensures i))
     (step (opened zero .begin-open .ensures) (last (zero .refuse-if .ensures)))
-    (finish-joined (worked .work .ensures _ (blocks-of l))
-    (c .issue .ensures _ (spoken-as (said .ei .ensures) (ap (λ (d : Dig). ei nought d) (bytes-of l))))) (omega arith)
+    (finish-joined (formed _ (worked .work .ensures) (blocks-of l))
+    (issues-it (c .issue .ensures) (spoken-as (said .ei .ensures) (ap (λ (d : Dig). ei nought d) (bytes-of l))))) (omega arith)
 
 pub first-spec : {M : Type 1} → statement M
 first-spec = tie.close (tie.spec free free free free returns free free free free returns-2)

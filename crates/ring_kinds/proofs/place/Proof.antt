@@ -1,7 +1,7 @@
 -- The kind's row of the table, check by check.
 use native.Mathlib.Omega.{arith}
 use Rattle.paper.specs.Requests as Q
-use Rattle.checks.proofs.Steps.{step, last, by-need, answered}
+use Rattle.checks.proofs.Steps.{step, last, by-need, answered, issues-it}
 use Rattle.places.specs.Places.{bytesAt, requestAt}
 use Rattle.places.proofs.Places.{free}
 use Rattle.ring_kinds.proofs.place.Statement.{statement}
@@ -35,7 +35,7 @@ returns c =
     (step (an-zero .refuse-if2 .ensures)
     (step (bn-zero .refuse-if3 .ensures)
     (step (by-need _ (gap .refuse-unless .ensures) (between .in-gap .ensures)) (last (memo .place-memo .ensures)))))))
-    (c .issue .ensures _ (said .ei .ensures)) (omega arith)
+    (issues-it (c .issue .ensures) (said .ei .ensures)) (omega arith)
 
 pub place-spec : {M : Type 1} → statement M
 place-spec = tie.close (tie.spec free free free free free free free free free free free free free free free free returns)

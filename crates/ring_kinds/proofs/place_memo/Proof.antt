@@ -2,7 +2,7 @@
 use mathlib.Core.List.{[], _∷_}
 use Rattle.paper.specs.Strings.{nought, leaf, u2}
 use Rattle.digests.proofs.Fit.{bytes-of, blocks-of}
-use Rattle.checks.proofs.Steps.{stopped, joined, spoken-as}
+use Rattle.checks.proofs.Steps.{stopped, joined, spoken-as, formed, fits-either}
 use Rattle.places.proofs.Places.{free}
 use Rattle.ring_kinds.proofs.place_memo.Statement.{statement}
 use Rattle.ring_kinds.proofs.place_memo.Tie as tie
@@ -24,10 +24,10 @@ returns-2 c =
     let l1 = leaf1 .leaf .ensures in
     let l2 = leaf2 .leaf2 .ensures in
     let l1n = leaf3 .leaf3 .ensures in
-    joined (worked1 .work .ensures (leaf (a .a .0) (a .an .0) (a .w) ∷ []) (blocks-of l1))
-    (joined (worked2 .work2 .ensures (leaf (a .a .0) (a .bn .0) (a .w) ∷ []) (blocks-of l1n))
-    (joined (worked3 .work3 .ensures (leaf (a .an .0) (a .bn .0) nought ∷ []) (blocks-of l2))
-    (c .compare-either .ensures _ _
+    joined (formed (leaf (a .a .0) (a .an .0) (a .w) ∷ []) (worked1 .work .ensures) (blocks-of l1))
+    (joined (formed (leaf (a .a .0) (a .bn .0) (a .w) ∷ []) (worked2 .work2 .ensures) (blocks-of l1n))
+    (joined (formed (leaf (a .an .0) (a .bn .0) nought ∷ []) (worked3 .work3 .ensures) (blocks-of l2))
+    (fits-either (c .compare-either .ensures)
     (spoken-as (first .u2 .ensures) (λ i. u2 (bytes-of l1 i) (bytes-of l2 i) (a .y) (bytes-of l1n i) nought (a .yn)))
     (spoken-as (second .u22 .ensures) (λ i. u2 (bytes-of l2 i) (bytes-of l1 i) (a .y) nought (bytes-of l1n i) (a .yn))))))
 

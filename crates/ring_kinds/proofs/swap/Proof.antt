@@ -1,7 +1,7 @@
 -- The kind's row of the table, check by check.
 use native.Mathlib.Omega.{arith}
 use Rattle.paper.specs.Requests as Q
-use Rattle.checks.proofs.Steps.{step, last, answered}
+use Rattle.checks.proofs.Steps.{step, last, answered, fits-one, issues-it}
 use Rattle.places.specs.Places.{bytesAt, requestAt}
 use Rattle.places.proofs.Places.{free}
 use Rattle.ring_kinds.proofs.swap.Statement.{statement}
@@ -23,8 +23,8 @@ returns c =
     answered (start .args .r) 6 (start .args .f .now)
     (λ i.
     Q.swap (x1 .digest .ensures i) (x2 .digest2 .ensures i) (y .digest3 .ensures i) (yn .digest4 .ensures i) (m .digest5 .ensures i))
-    (step (opened .begin-open .ensures) (last (compared .compare .ensures _ (due .u2 .ensures))))
-    (c .issue .ensures _ (said .ei .ensures)) (omega arith)
+    (step (opened .begin-open .ensures) (last (fits-one (compared .compare .ensures) (due .u2 .ensures))))
+    (issues-it (c .issue .ensures) (said .ei .ensures)) (omega arith)
 
 pub swap-spec : {M : Type 1} → statement M
 swap-spec = tie.close (tie.spec free free free free free free free free free free returns)

@@ -1,106 +1,81 @@
 -- After i levels the whole fold is what the levels left give from here, and the count is what was worked so far.
-use mathlib.Core.Path.{_≡_, refl, sym, ap, _∙_}
+use mathlib.Core.Path.{_≡_, refl, _∙_}
 use mathlib.Core.List.{List, []}
-use Prim.Native.Nat.{ℕ, _+_, _-_, _*_, _%_, _<_, _≤_}
+use Prim.Native.Nat.{ℕ, suc, _+_, _-_, _*_, _%_, _≤_}
 use native.Mathlib.Omega.{arith}
-use lib.ListN.{length, drop, getD}
-use Rattle.seqs.specs.Bytes.{digestAt}
+use lib.ListN.{length, drop, take, getD, length-take}
+use lib.Seq.{getD-take}
 use Rattle.sha256.specs.Hash.{sha256}
-use Rattle.paper.specs.Strings.{Dig, cost, up, upForms, foldUp, foldForms}
+use Rattle.paper.specs.Strings.{cost, up, upForms, foldUp, foldForms}
 use Rattle.digests.specs.Worked.{worked}
 use Rattle.digests.proofs.Fit.{blocks-of}
-use Rattle.places.proofs.Places.{free, sides-inside, sibling-inside, siblings-count}
-use Rattle.tree_kinds.specs.Paths.{sidesOf, siblingsOf}
 use Rattle.tree_kinds.proofs.PathLaws.{level-cost, up-next, forms-next, up-end, forms-end}
 use borrow.Author.Needs.{needs}
 use Rattle.tree_kinds.proofs.fold.Statement.{statement}
 use Rattle.tree_kinds.proofs.fold.Tie as tie
 
 abbrev Inv-loop : tie.InvT-loop
-Inv-loop f n u₀ b₀ bits₀ i₀ u b bits i =
+Inv-loop n sides siblings u₀ b₀ bits₀ i₀ u b bits i =
     (i ≤ n) × (b ≤ 2 * i)
-    × (foldUp sha256 u₀ bits₀ (siblingsOf f) ≡ foldUp sha256 u bits (drop i (siblingsOf f)))
-    × (cost (foldForms sha256 u₀ bits₀ (siblingsOf f)) ≡ b + cost (foldForms sha256 u bits (drop i (siblingsOf f))))
+    × (foldUp sha256 u₀ sides (take n siblings) ≡ foldUp sha256 u bits (drop i (take n siblings)))
+    × (cost (foldForms sha256 u₀ sides (take n siblings)) ≡ b + cost (foldForms sha256 u bits (drop i (take n siblings))))
 
 abbrev μ-loop : tie.MeasureT-loop
-μ-loop f n u₀ b₀ bits₀ i₀ u b bits i = n - i
-
--- before the first level
-module _ (c : tie.After-number-at Inv-loop μ-loop) where
-  abbrev counted : tie.After-byte-at Inv-loop μ-loop
-  counted = c .before
-
-  abbrev start : tie.Start Inv-loop μ-loop
-  start = counted .before .before
-
-  abbrev f : List ℕ
-  f = start .args .f .now
-
-  siblings : length (siblingsOf f) ≡ counted .byte-at .result
-  siblings = siblings-count f ∙ sym (counted .byte-at .ensures)
+μ-loop n sides siblings u₀ b₀ bits₀ i₀ u b bits i = n - i
 
 loop-holds : tie.Need-loop-holds Inv-loop μ-loop
 loop-holds c = (search needs, search needs, refl, omega arith)
 
--- a level worked
-module _ (c : tie.After-level Inv-loop μ-loop) where
-  abbrev turn : tie.In-loop Inv-loop μ-loop
-  turn = c .before .before
+-- the level that was worked, one up from the turn's beginning
+rise : (c : tie.After-level Inv-loop μ-loop)
+    → let k = c .before .before .before .loop in
+    let s = getD (c .before .before .before .before .args .t2) (k .i) [] in
+    c .level .result ≡ worked (up sha256 (k .u) s (k .bits % 2)) (upForms sha256 (k .u) s (k .bits % 2))
+rise c = c .level .ensures
 
-  abbrev at : tie.At-loop Inv-loop μ-loop
-  at = turn .before
-
-  abbrev first : tie.After-number-at Inv-loop μ-loop
-  first = at .before
-
-  abbrev sibling : Dig
-  sibling = digestAt (f first) (74 + 32 * at .loop .i)
-
-  abbrev bit : ℕ
-  bit = at .loop .bits % 2
-
-  rise : c .level .result ≡ worked (up sha256 (at .loop .u) sibling bit) (upForms sha256 (at .loop .u) sibling bit)
-  rise =
-      c .level .ensures
-      ∙ ap (λ (s : Dig). worked (up sha256 (at .loop .u) s bit) (upForms sha256 (at .loop .u) s bit)) (c .before .digest-at .ensures)
-
-  cheap : c .level .result .blocks ≤ 2
-  cheap = omega (arith, blocks-of rise, level-cost (at .loop .u) sibling bit)
+add-b : tie.Need-add-b Inv-loop μ-loop
+add-b c =
+    let k = c .before .before .before .before .before .loop in
+    let s = getD (c .before .before .before .before .before .before .args .t2) (k .i) [] in
+    omega (arith, blocks-of (rise (c .before .before)), level-cost (k .u) s (k .bits % 2))
 
 loop-again : tie.Need-loop-again Inv-loop μ-loop
 loop-again c =
-    let done = c .before .before in
-    let k = at done .loop in
-    let l = siblingsOf (f (first done)) in
-    let many = siblings (first done) in
-    let here : k .i < length l = omega arith in
-    let g : getD l (k .i) [] ≡ sibling done =
-    sibling-inside (f (first done)) (k .i) (omega (arith, siblings-count (f (first done)))) in
-    let d = done .level .result in (
+    let st = c .before .before .before .before .before .before in
+    let a = st .args in
+    let k = c .before .before .before .before .before .loop in
+    let s = getD (a .t2) (k .i) [] in
+    let d = c .before .before .level .result in
+    let e = rise (c .before .before) in
+    let h : suc (k .i) ≤ a .n = omega arith in
+    let t : length (a .t2) ≡ 64 = st .good .1 .0 .1 .0 .1 in
+    let l = take (a .n) (a .t2) in
+    let n : length l ≡ a .n = simp length-take (omega arith) in
+    let g : getD l (k .i) [] ≡ s = getD-take (a .n) (a .t2) (k .i) [] h in (
       omega arith,
-      omega (arith, cheap done),
-      k .inv .2 ∙ up-next (k .u) (k .bits) l (k .i) (sibling done) g here d (rise done),
-      forms-next (k .u) (k .bits) l (k .i) (sibling done) g here d (rise done) (k .b) _ (k .inv .3),
+      omega (arith, blocks-of e, level-cost (k .u) s (k .bits % 2)),
+      k .inv .2 ∙ up-next (k .u) (k .bits) l (k .i) s g (omega arith) d e,
+      forms-next (k .u) (k .bits) l (k .i) s g (omega arith) d e (k .b) _ (k .inv .3),
     )
 
 returns : tie.Need-returns Inv-loop μ-loop
 returns c =
+    let a = c .before .before .args in
     let k = c .before .loop in
-    let first = c .before .before in
-    let l = siblingsOf (f first) in
-    let many = siblings first in
-    let all : length l ≤ k .i = omega arith in
-    let sides : first .number-at .result ≡ sidesOf (f first) = first .number-at .ensures ∙ sides-inside (f first) in
-    let x = start first .args .x in
-    let e1 : foldUp sha256 x (sidesOf (f first)) l ≡ k .u =
-    ap (λ (n : ℕ). foldUp sha256 x n l) (sym sides) ∙ k .inv .2 ∙ up-end (k .u) (k .bits) l (k .i) all in
-    let e2 : cost (foldForms sha256 x (sidesOf (f first)) l) ≡ k .b =
-    ap (λ (n : ℕ). cost (foldForms sha256 x n l)) (sym sides) ∙ k .inv .3
-    ∙ omega (arith, forms-end (k .u) (k .bits) l (k .i) all) in
-    rw (e1, e2)
+    let l : List (List ℕ) = take (a .n) (a .t2) in
+    let n : length l ≤ a .n = simp length-take (omega arith) in
+    let e1 : foldUp sha256 (a .x) (a .sides) l ≡ k .u = k .inv .2 ∙ up-end (k .u) (k .bits) l (k .i) (omega arith) in
+    let e2 : cost (foldForms sha256 (a .x) (a .sides) l) ≡ k .b =
+    k .inv .3 ∙ omega (arith, forms-end (k .u) (k .bits) l (k .i) (omega arith)) in
+    (rw (e1, e2), omega arith)
 
 pub fold-spec : {M : Type 1} → statement M
 fold-spec =
     tie.close
-    (tie.spec Inv-loop μ-loop free (λ c. search needs) free loop-holds (λ c. search needs) (λ c. search needs) free free
-    (λ c. omega (arith, cheap (c .before .before))) (λ c. search needs) (λ c. search needs) loop-again returns)
+    (tie.spec
+    Inv-loop
+    μ-loop
+    loop-holds
+    (λ c. search needs) (λ c. search needs) (search needs) add-b
+    (λ c. search needs) (λ c. search needs) loop-again
+    returns)

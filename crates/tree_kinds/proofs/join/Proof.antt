@@ -1,7 +1,7 @@
 -- The kind's row of the table, check by check.
 use native.Mathlib.Omega.{arith}
 use Rattle.paper.specs.Requests as Q
-use Rattle.checks.proofs.Steps.{step, last, answered}
+use Rattle.checks.proofs.Steps.{step, last, answered, fits-one, issues-it}
 use Rattle.places.specs.Places.{bytesAt, requestAt}
 use Rattle.places.proofs.Places.{free}
 use Rattle.tree_kinds.proofs.join.Statement.{statement}
@@ -30,8 +30,8 @@ returns c =
     Q.join (x .digest .ensures i) (y .digest2 .ensures i) (xn .digest3 .ensures i) (yn .digest4 .ensures i) (m1 .digest5 .ensures i)
     (z .digest6 .ensures i) (zn .digest7 .ensures i) (m2 .digest8 .ensures i))
     (step (opened .begin-open .ensures)
-    (step (first .compare .ensures _ (due1 .u1 .ensures)) (last (second .compare2 .ensures _ (due2 .u12 .ensures)))))
-    (c .issue .ensures _ (said .u13 .ensures)) (omega arith)
+    (step (fits-one (first .compare .ensures) (due1 .u1 .ensures)) (last (fits-one (second .compare2 .ensures) (due2 .u12 .ensures)))))
+    (issues-it (c .issue .ensures) (said .u13 .ensures)) (omega arith)
 
 pub join-spec : {M : Type 1} → statement M
 join-spec = tie.close (tie.spec free free free free free free free free free free free free free free free returns)

@@ -1,7 +1,7 @@
 -- The kind's row of the table, check by check.
 use native.Mathlib.Omega.{arith}
 use Rattle.paper.specs.Requests as Q
-use Rattle.checks.proofs.Steps.{step, last, answered}
+use Rattle.checks.proofs.Steps.{step, last, answered, fits-one}
 use Rattle.places.specs.Places.{bytesAt, requestAt}
 use Rattle.places.proofs.Places.{free}
 use Rattle.tree_kinds.proofs.pair.Statement.{statement}
@@ -31,7 +31,7 @@ returns c =
     Q.pair (x1 .digest .ensures i) (y .digest2 .ensures i) (x1n .digest3 .ensures i) (yn .digest4 .ensures i) (m1 .digest5 .ensures i)
     (x2 .digest6 .ensures i) (z .digest7 .ensures i) (x2n .digest8 .ensures i) (zn .digest9 .ensures i) (m2 .digest10 .ensures i))
     (step (opened .begin-open .ensures)
-    (step (first .compare .ensures _ (due1 .u1 .ensures)) (last (second .compare2 .ensures _ (due2 .u12 .ensures)))))
+    (step (fits-one (first .compare .ensures) (due1 .u1 .ensures)) (last (fits-one (second .compare2 .ensures) (due2 .u12 .ensures)))))
     (c .pair-answer .ensures) (omega arith)
 
 pub pair-spec : {M : Type 1} → statement M

@@ -2,7 +2,7 @@
 use mathlib.Core.Path.{ap₂}
 use Rattle.paper.specs.Strings.{Dig, u2, parentForms}
 use Rattle.digests.proofs.Fit.{bytes-of, blocks-of}
-use Rattle.checks.proofs.Steps.{spoken-as, finished-stopped, finished-as, finish-joined}
+use Rattle.checks.proofs.Steps.{spoken-as, finished-stopped, finished-as, finish-joined, formed, issues-it}
 use Rattle.places.proofs.Places.{free}
 use Rattle.tree_kinds.proofs.pair_answer.Statement.{statement}
 use Rattle.tree_kinds.proofs.pair_answer.Tie as tie
@@ -21,9 +21,9 @@ returns-2 c =
     let h = node .parent .ensures in
     let hn = noden .parent2 .ensures in
     let says = ap₂ (λ (y y′ : Dig). u2 (a .x1) (a .x2) y (a .x1n) (a .x2n) y′) (bytes-of h) (bytes-of hn) in
-    finish-joined (worked1 .work .ensures (parentForms (a .y) (a .z)) (blocks-of h))
-    (finish-joined (worked2 .work2 .ensures (parentForms (a .yn) (a .zn)) (blocks-of hn))
-    (c .issue .ensures _ (spoken-as (said .u2 .ensures) says)))
+    finish-joined (formed (parentForms (a .y) (a .z)) (worked1 .work .ensures) (blocks-of h))
+    (finish-joined (formed (parentForms (a .yn) (a .zn)) (worked2 .work2 .ensures) (blocks-of hn))
+    (issues-it (c .issue .ensures) (spoken-as (said .u2 .ensures) says)))
 
 pub pair-answer-spec : {M : Type 1} → statement M
 pair-answer-spec = tie.close (tie.spec free returns free free free free free free returns-2)

@@ -1,7 +1,7 @@
 -- The kind's row of the table, check by check.
 use native.Mathlib.Omega.{arith}
 use Rattle.paper.specs.Requests as Q
-use Rattle.checks.proofs.Steps.{step, last, answered}
+use Rattle.checks.proofs.Steps.{step, last, answered, fits-one, issues-it}
 use Rattle.places.specs.Places.{bytesAt, requestAt}
 use Rattle.places.proofs.Places.{free}
 use Rattle.tree_kinds.proofs.raise.Statement.{statement}
@@ -33,8 +33,8 @@ returns c =
     (x2n .digest5 .ensures i) (yn .digest6 .ensures i) (m1 .digest7 .ensures i) (top .digest8 .ensures i)
     (topn .digest9 .ensures i) (m2 .digest10 .ensures i))
     (step (opened .begin-open .ensures)
-    (step (first .compare .ensures _ (due1 .u2 .ensures)) (last (second .compare2 .ensures _ (due2 .u1 .ensures)))))
-    (c .issue .ensures _ (said .u22 .ensures)) (omega arith)
+    (step (fits-one (first .compare .ensures) (due1 .u2 .ensures)) (last (fits-one (second .compare2 .ensures) (due2 .u1 .ensures)))))
+    (issues-it (c .issue .ensures) (said .u22 .ensures)) (omega arith)
 
 pub raise-spec : {M : Type 1} → statement M
 raise-spec =
