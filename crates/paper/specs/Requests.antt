@@ -39,8 +39,10 @@ pub data Carried : Type 0 where
   theValues : Carried
   aPath : Carried
 
-abbrev four : List Carried
-four = aDigest ∷ aDigest ∷ aDigest ∷ aDigest ∷ []
+-- so many digests
+abbrev digests : ℕ → List Carried
+digests zero = []
+digests (suc n) = aDigest ∷ digests n
 
 -- "n (1 byte), sides (8), n siblings"; "up to 64 siblings of 32 bytes each"
 abbrev pub mostSiblings : ℕ
@@ -82,59 +84,108 @@ pub record Kind : Type 0 where
   pub carries : List Carried
   pub reads : (ℕ → List ℕ) → Request
 
--- the table, from kind 01 on
+-- the table, from kind 01 on: each row names its parts in their order
 unfoldable pub kinds : List Kind
 kinds =
     -- 01 path: x, x', n (1 byte), sides (8), n siblings
-    record { carries = aDigest ∷ aDigest ∷ aPath ∷ []; reads = λ p. path (p 0) (p 1) (sidesIn (p 2)) (siblingsIn (p 2)) }
+    record {
+      carries = aDigest ∷ aDigest ∷ aPath ∷ [];
+      reads =
+          λ p.
+          let x = p 0 in let x′ = p 1 in let way = p 2 in
+          path x x′ (sidesIn way) (siblingsIn way);
+    }
     -- 02 witness: x, y, m
-    ∷ record { carries = aDigest ∷ aDigest ∷ aDigest ∷ []; reads = λ p. witness (p 0) (p 1) (p 2) }
+    ∷ record { carries = digests 3; reads = λ p. let x = p 0 in let y = p 1 in let m = p 2 in witness x y m }
     -- 03 join: x, y, x', y', m1, z, z', m2
-    ∷ record { carries = four ++ four; reads = λ p. join (p 0) (p 1) (p 2) (p 3) (p 4) (p 5) (p 6) (p 7) }
+    ∷ record {
+      carries = digests 8;
+      reads =
+          λ p.
+          let x = p 0 in let y = p 1 in let x′ = p 2 in let y′ = p 3 in let m1 = p 4 in let z = p 5 in let z′ = p 6 in
+          let m2 = p 7 in
+          join x y x′ y′ m1 z z′ m2;
+    }
     -- 04 pair: x1, y, x1', y', m1, x2, z, x2', z', m2
     ∷ record {
-      carries = aDigest ∷ aDigest ∷ four ++ four;
-      reads = λ p. pair (p 0) (p 1) (p 2) (p 3) (p 4) (p 5) (p 6) (p 7) (p 8) (p 9);
+      carries = digests 10;
+      reads =
+          λ p.
+          let x1 = p 0 in let y = p 1 in let x1′ = p 2 in let y′ = p 3 in let m1 = p 4 in let x2 = p 5 in let z = p 6 in
+          let x2′ = p 7 in let z′ = p 8 in let m2 = p 9 in
+          pair x1 y x1′ y′ m1 x2 z x2′ z′ m2;
     }
     -- 05 raise: x1, x2, y, x1', x2', y', m1, z, z', m2
     ∷ record {
-      carries = aDigest ∷ aDigest ∷ four ++ four;
-      reads = λ p. raise (p 0) (p 1) (p 2) (p 3) (p 4) (p 5) (p 6) (p 7) (p 8) (p 9);
+      carries = digests 10;
+      reads =
+          λ p.
+          let x1 = p 0 in let x2 = p 1 in let y = p 2 in let x1′ = p 3 in let x2′ = p 4 in let y′ = p 5 in
+          let m1 = p 6 in let z = p 7 in let z′ = p 8 in let m2 = p 9 in
+          raise x1 x2 y x1′ x2′ y′ m1 z z′ m2;
     }
     -- 06 swap: x1, x2, y, y', m
-    ∷ record { carries = aDigest ∷ four; reads = λ p. swap (p 0) (p 1) (p 2) (p 3) (p 4) }
+    ∷ record {
+      carries = digests 5;
+      reads =
+          λ p.
+          let x1 = p 0 in let x2 = p 1 in let y = p 2 in let y′ = p 3 in let m = p 4 in
+          swap x1 x2 y y′ m;
+    }
     -- 07 first: A
-    ∷ record { carries = aNumber ∷ []; reads = λ p. first (numberOf (p 0)) }
+    ∷ record { carries = aNumber ∷ []; reads = λ p. let A = numberOf (p 0) in first A }
     -- 08 place: A, A', B', ω, y, y', m
     ∷ record {
-      carries = aNumber ∷ aNumber ∷ aNumber ∷ four;
-      reads = λ p. place (numberOf (p 0)) (numberOf (p 1)) (numberOf (p 2)) (p 3) (p 4) (p 5) (p 6);
+      carries = aNumber ∷ aNumber ∷ aNumber ∷ digests 4;
+      reads =
+          λ p.
+          let A = numberOf (p 0) in let A′ = numberOf (p 1) in let B′ = numberOf (p 2) in let ω = p 3 in let y = p 4 in
+          let y′ = p 5 in let m = p 6 in
+          place A A′ B′ ω y y′ m;
     }
     -- 09 turn: x, y, m
-    ∷ record { carries = aDigest ∷ aDigest ∷ aDigest ∷ []; reads = λ p. turn (p 0) (p 1) (p 2) }
+    ∷ record { carries = digests 3; reads = λ p. let x = p 0 in let y = p 1 in let m = p 2 in turn x y m }
     -- 0a chain: x, y, m1, z, m2
-    ∷ record { carries = aDigest ∷ four; reads = λ p. chain (p 0) (p 1) (p 2) (p 3) (p 4) }
+    ∷ record {
+      carries = digests 5;
+      reads =
+          λ p.
+          let x = p 0 in let y = p 1 in let m1 = p 2 in let z = p 3 in let m2 = p 4 in
+          chain x y m1 z m2;
+    }
     -- 0b adopt: y, y', m
-    ∷ record { carries = aDigest ∷ aDigest ∷ aDigest ∷ []; reads = λ p. adopt (p 0) (p 1) (p 2) }
+    ∷ record { carries = digests 3; reads = λ p. let y = p 0 in let y′ = p 1 in let m = p 2 in adopt y y′ m }
     -- 0c set: A, A', old record, v2, v3, v4, y, y', m
     ∷ record {
-      carries = aNumber ∷ aNumber ∷ aRecord ∷ theValues ∷ aDigest ∷ aDigest ∷ aDigest ∷ [];
-      reads = λ p. setTo (numberOf (p 0)) (numberOf (p 1)) (recordIn (p 2)) (valuesIn (p 3)) (p 4) (p 5) (p 6);
+      carries = aNumber ∷ aNumber ∷ aRecord ∷ theValues ∷ digests 3;
+      reads =
+          λ p.
+          let A = numberOf (p 0) in let A′ = numberOf (p 1) in let old = p 2 in let v = p 3 in let y = p 4 in
+          let y′ = p 5 in let m = p 6 in
+          setTo A A′ (recordIn old) (valuesIn v) y y′ m;
     }
     -- 0d clear: A, A', old record, y, y', m
     ∷ record {
-      carries = aNumber ∷ aNumber ∷ aRecord ∷ aDigest ∷ aDigest ∷ aDigest ∷ [];
-      reads = λ p. clear (numberOf (p 0)) (numberOf (p 1)) (recordIn (p 2)) (p 3) (p 4) (p 5);
+      carries = aNumber ∷ aNumber ∷ aRecord ∷ digests 3;
+      reads =
+          λ p.
+          let A = numberOf (p 0) in let A′ = numberOf (p 1) in let old = p 2 in let y = p 3 in let y′ = p 4 in
+          let m = p 5 in
+          clear A A′ (recordIn old) y y′ m;
     }
     -- 0e ask: q, A, A', record, y, m
     ∷ record {
-      carries = aNumber ∷ aNumber ∷ aNumber ∷ aRecord ∷ aDigest ∷ aDigest ∷ [];
-      reads = λ p. ask (numberOf (p 0)) (numberOf (p 1)) (numberOf (p 2)) (recordIn (p 3)) (p 4) (p 5);
+      carries = aNumber ∷ aNumber ∷ aNumber ∷ aRecord ∷ digests 2;
+      reads =
+          λ p.
+          let q = numberOf (p 0) in let A = numberOf (p 1) in let A′ = numberOf (p 2) in let r = p 3 in let y = p 4 in
+          let m = p 5 in
+          ask q A A′ (recordIn r) y m;
     }
     -- 0f ask of none: q
-    ∷ record { carries = aNumber ∷ []; reads = λ p. askNone (numberOf (p 0)) }
+    ∷ record { carries = aNumber ∷ []; reads = λ p. let q = numberOf (p 0) in askNone q }
     -- 10 open: secret
-    ∷ record { carries = aDigest ∷ []; reads = λ p. unlock (p 0) }
+    ∷ record { carries = aDigest ∷ []; reads = λ p. let secret = p 0 in unlock secret }
     ∷ []
 
 -- ── a frame ──
