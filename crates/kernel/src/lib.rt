@@ -8,15 +8,15 @@ use paper::Registers;
 use places::FIELDS;
 use places::digest;
 use replies::Outcome;
-ghost use mathlib.Core.Bool.{true};
 ghost use mathlib.Core.Path.{_≡_};
 ghost use Prim.Native.Nat.{_*_, _≤_};
-ghost use lib.ListN.{getD, take};
+ghost use lib.ListN.{take};
 ghost use Rattle.sha256.specs.Hash.{sha256};
-ghost use Rattle.paper.specs.Requests.{digestsIn, kindOf, known, fits, requestOf};
+ghost use Rattle.paper.specs.Requests.{digestsIn};
 ghost use Rattle.paper.specs.Module.{answerFrame};
 ghost use Rattle.replies.specs.Outcomes.{outcomeOf, outcome};
-ghost use Rattle.places.specs.Places.{bytesAt, requestAt};
+ghost use Rattle.places.specs.Places.{bytesAt};
+ghost use Rattle.kernel.specs.Fitting.{levelsIn, pathIn, answerFitting};
 
 // The n siblings of a path over the front of the array.
 fn siblings(f: &[u8], n: usize) -> [[u8; 32]; MOST_SIBLINGS]
@@ -33,12 +33,19 @@ fn siblings(f: &[u8], n: usize) -> [[u8; 32]; MOST_SIBLINGS]
     out
 }
 
-// A path's frame: its siblings go by value, and they fit the array where the frame fits its kind.
-fn path(r: Registers, f: &[u8]) -> Outcome
-    requires { ⌜ getD (now f) 65 0 ≤ 64 ⌝ }
-    ensures { λ o. ⌜ o ≡ outcome r 1 (requestAt 1 (now (f .entry))) ⌝ }
+// A path's n, or 64 where it is more.
+fn levels(f: &[u8]) -> usize
+    ensures { λ n. ⌜ n ≡ levelsIn (now (f .entry)) ⌝ }
 {
     let n = byte_at(f, 65) as usize;
+    if n < MOST_SIBLINGS { n } else { MOST_SIBLINGS }
+}
+
+// A path's frame: its siblings go by value.
+fn path(r: Registers, f: &[u8]) -> Outcome
+    ensures { λ o. ⌜ o ≡ outcome r 1 (pathIn (now (f .entry))) ⌝ }
+{
+    let n = levels(f);
     let s = siblings(f, n);
     tree_kinds::path(
         r,
@@ -50,10 +57,10 @@ fn path(r: Registers, f: &[u8]) -> Outcome
     )
 }
 
-// The function of each kind, for a frame that passes its own checks.
-fn dispatch(r: Registers, f: &[u8]) -> Outcome
-    requires { ⌜ (known (kindOf (now f)) ≡ true) × (fits (now f) ≡ true) ⌝ }
-    ensures { λ o. ⌜ o ≡ outcome r (kindOf (now (f .entry))) (requestOf (now (f .entry))) ⌝ }
+// A frame that passed its own checks, 2 and 3, as every frame that the reader writes. Any other is answered as what lies at its
+// kind's places, and by 2 where no kind has its number.
+pub fn answer_fitting(r: Registers, f: &[u8]) -> Outcome
+    ensures { λ o. ⌜ o ≡ answerFitting r (now (f .entry)) ⌝ }
 {
     let kind = byte_at(f, 0);
     match kind {
@@ -85,5 +92,5 @@ pub fn answer(r: Registers, frame: &[u8]) -> Outcome
     if refused != 0 {
         return replies::refuse(r, refused, 0);
     }
-    dispatch(r, frame)
+    answer_fitting(r, frame)
 }

@@ -30,7 +30,8 @@ use Rattle.lines.proofs.Outcomes.{too-long}
 use Rattle.lines.proofs.Fitting.{read-by, frame-by}
 use Rattle.replies.specs.declared.Outcome.{Outcome}
 use Rattle.replies.specs.Outcomes.{outcomeOf, refusal}
-use Rattle.kernel.proofs.Frames.{frame-refused}
+use Rattle.kernel.specs.Fitting.{answerFitting}
+use Rattle.kernel.proofs.Frames.{frame-refused, frame-sound, frame-answered}
 use Rattle.module.specs.Work.{numberOf}
 
 -- ── checks 15 and 1, before those of the frame ──
@@ -122,13 +123,15 @@ module _ (s : Registers) (line : List ℕ) where
 
   -- a line that it reads
   read-line-by : (b : Bool) → isHex line .fails ≡ b → readRefusal line longestFrame ≡ 0
-      → (length (bytesOf line) ≤ longestFrame) × (answerFrame sha256 s (bytesOf line) ≡ answerTo sha256 s line replyRoom)
+      → (length (bytesOf line) ≤ longestFrame) × (answerFitting s (bytesOf line) ≡ outcomeOf (answerTo sha256 s line replyRoom))
   read-line-by true h z = let w = read-1 line h in absurd (omega arith)
-  read-line-by false h z = (short line h, sym (is-hex s line h))
+  read-line-by false h z =
+      let sound = frame-sound s (bytesOf line) _ (read-own line h) z in
+      (short line h, frame-answered s (bytesOf line) (sound .0) (sound .1) ∙ sym (ap outcomeOf (is-hex s line h)))
 
   pub line-read : (k l : ℕ) → Frame k l ≡ readOf line longestFrame
       → (l ≡ length (bytesOf line)) × (length (bytesOf line) ≤ longestFrame)
-      × (answerFrame sha256 s (bytesOf line) ≡ answerTo sha256 s line replyRoom)
+      × (answerFitting s (bytesOf line) ≡ outcomeOf (answerTo sha256 s line replyRoom))
   unfolding readOf
   line-read k l e =
       let i : ℕ = readRefusal line longestFrame in

@@ -49,7 +49,7 @@ fn answer_line(r: Registers, line: &[u8]) -> Outcome
     let Read::Frame(_, n) = got else {
         return replies::refuse(r, number(got), 0);
     };
-    kernel::answer(r, &frame[0..n])
+    kernel::answer_fitting(r, &frame[0..n])
 }
 
 // One line, whatever it holds, on registers by value: the reply's line goes over the front of the reply space.

@@ -1,27 +1,33 @@
--- The fields are those at their places; the siblings are as many as the frame's byte says.
-use mathlib.Core.Path.{_∙_}
+-- The fields are those at their places.
+use mathlib.Core.Path.{ap, _∙_}
+use Prim.Native.Nat.{ℕ, _*_}
+use native.Mathlib.Omega.{arith}
 use Rattle.paper.specs.Requests as Q
+use Rattle.paper.specs.Requests.{digestsIn}
 use Rattle.replies.specs.Outcomes.{outcome}
-use Rattle.places.specs.Places.{bytesAt, requestAt}
-use Rattle.places.proofs.Places.{free, sides-inside, siblings-inside}
-use borrow.Author.Needs.{needs}
+use Rattle.places.specs.Places.{bytesAt}
+use Rattle.places.proofs.Places.{free}
+use Rattle.kernel.specs.Fitting.{pathIn}
+use Rattle.kernel.proofs.Frames.{few-levels}
 use Rattle.kernel.proofs.path.Statement.{statement}
 use Rattle.kernel.proofs.path.Tie as tie
 
+few : tie.Need-siblings-requires
+few c κs = omega (arith, c .levels .ensures, few-levels (c .before .before .args .f .now))
+
 returns : tie.Need-returns
-unfolding bytesAt requestAt Q.kinds
+unfolding pathIn
 returns c =
-    let c1 = c .before .before .before in
-    let counted = c1 .before .before in
+    let sides = c .before in
+    let xn = sides .before in
+    let x = xn .before in
+    let read = x .before in
+    let counted = read .before in
     let a = counted .before .before .args in
-    let sides = c .before .number-at .ensures ∙ sides-inside (a .f .now) in
-    let siblings = c1 .before .siblings .ensures ∙ siblings-inside (a .f .now) _ (counted .byte-at .ensures) in
+    let siblings = read .siblings .ensures
+    ∙ ap (λ (m : ℕ). digestsIn m (bytesAt (a .f .now) 74 (32 * m))) (counted .levels .ensures) in
     c .path .ensures
-    ∙ (λ i.
-    outcome (a .r) 1
-    (Q.path (c1 .digest .ensures i) (c .before .before .digest2 .ensures i) (sides i) (siblings i)))
+    ∙ (λ i. outcome (a .r) 1 (Q.path (x .digest .ensures i) (xn .digest2 .ensures i) (sides .number-at .ensures i) (siblings i)))
 
 pub path-spec : {M : Type 1} → statement M
-path-spec =
-    tie.close
-    (tie.spec free (λ c. search needs) (λ c κs. search needs) free free free free returns)
+path-spec = tie.close (tie.spec free few free free free free returns)

@@ -1,14 +1,11 @@
 -- What the reader refuses is the line's refusal; else the frame it wrote is the line's, and is answered.
 use mathlib.Core.Path.{sym, ap, _∙_}
-use mathlib.Core.List.{List}
 use Prim.Native.Nat.{ℕ, _-_}
 use native.Mathlib.Omega.{arith}
 use lib.ListN.{take, replicate}
-use Rattle.sha256.specs.Hash.{sha256}
-use Rattle.paper.specs.Module.{answerFrame}
 use Rattle.paper.specs.Refusals.{longestFrame}
 use Rattle.lines.specs.Reading.{frameAfter}
-use Rattle.replies.specs.Outcomes.{outcomeOf}
+use Rattle.kernel.specs.Fitting.{answerFitting}
 use Rattle.module.proofs.Laws.{line-refused, line-read, framed}
 use borrow.Author.Needs.{needs}
 use Rattle.module.proofs.answer_line.Statement.{statement}
@@ -21,8 +18,8 @@ returns c =
     let other = c .before .before .before .match .keys2 in
     c .refuse .ensures ∙ line-refused (a .r) (a .line .now) _ (read .ensures .0) other _ (c .before .number .ensures)
 
-part-answer-end : tie.Need-part-answer-end
-part-answer-end c =
+part-answer-fitting-end : tie.Need-part-answer-fitting-end
+part-answer-fitting-end c =
     let a = c .before .before .before .before .before .before .before .before .args in
     let read = c .before .before .before .before .before .read-line in
     let found = line-read (a .r) (a .line .now) _ _ (sym (c .before .before .got .given .1) ∙ read .ensures .0) in
@@ -38,7 +35,7 @@ returns-2 c =
     let found = line-read (a .r) l _ _ (sym got ∙ read .ensures .0) in
     let here = read .ensures .1 ∙ ap (λ o. frameAfter o l (replicate longestFrame 0)) got in
     let frame = ap (take (n - 0)) here ∙ framed (a .r) l (replicate longestFrame 0) n (found .0) in
-    c .answer .ensures ∙ ap (λ (f : List ℕ). outcomeOf (answerFrame sha256 (a .r) f)) frame ∙ ap outcomeOf (found .2)
+    c .answer-fitting .ensures ∙ ap (answerFitting (a .r)) frame ∙ found .2
 
 pub answer-line-spec : {M : Type 1} → statement M
 answer-line-spec =
@@ -53,6 +50,6 @@ answer-line-spec =
     returns
     (λ c. search needs)
     (λ c. search needs)
-    part-answer-end
+    part-answer-fitting-end
     (λ c κs. search needs)
     returns-2)
