@@ -6,8 +6,6 @@ use lib.ListN.{length}
 use Rattle.seqs.specs.Choose.{pick, both}
 use Rattle.hex.specs.Hex.{allDigits, bytesOf, lineOf}
 use Rattle.sha256.specs.Hash.{sha256}
-use Rattle.probe.specs.declared.After.{After}
-use Rattle.probe.specs.declared.After.the-variants.{Go, End}
 
 -- the line of its digest, or `?` where the line is no message of at most room bytes
 unfoldable pub answerOf : ℕ → List ℕ → List ℕ
@@ -15,8 +13,3 @@ answerOf room line =
     pick (both (eqb (length line % 2) 0) (both (leb (length line / 2) room) (allDigits line)))
     (lineOf (sha256 (bytesOf line)))
     (0x3f ∷ 0x0a ∷ [])
-
--- the bytes of a line that are held after a read
-abbrev pub heldOf : After → ℕ
-heldOf (Go n) = n
-heldOf (End n) = n

@@ -16,15 +16,9 @@ ghost use mathlib.Core.Path.{_≡_};
 ghost use mathlib.Core.List.{_++_, _∷_, []};
 ghost use Prim.Native.Nat.{_≤_};
 ghost use lib.ListN.{length, drop};
-ghost use Rattle.probe.specs.Answer.{answerOf, heldOf};
+ghost use Rattle.probe.specs.Answer.{answerOf};
 
 mod direct;
-
-// What one read left: go on with so many bytes of a line held, or the input ended there.
-enum After {
-    Go(usize),
-    End(usize),
-}
 
 // `?` and 0A over the front of the reply.
 fn not_a_message(reply: &mut [u8]) -> usize
@@ -167,7 +161,12 @@ fn message_probe(line: &[u8]) {
     }
 }
 
-fn print_answer(line: &[u8]) {
+// Answers the question in the first n bytes of the line's space.
+fn print_answer(space: &[u8], n: usize) {
+    if space.len() < n {
+        return;
+    }
+    let line = &space[0..n];
     match fields::byte_at(line, 0) {
         b'r' => read_probe(line),
         b'w' => write_probe(line),
@@ -176,59 +175,35 @@ fn print_answer(line: &[u8]) {
     }
 }
 
-// Every line that ends in the piece is answered; how much is held of the next one is returned.
-fn serve(piece: &[u8], line: &mut [u8], held: usize) -> usize
-    requires { ⌜ held ≤ length (now line) ⌝ }
-    ensures { λ r. ⌜ r ≤ length (now (line .entry)) ⌝ }
-{
-    let mut at: usize = 0;
-    let mut n = held;
-    while at < piece.len() {
-        match pieces::next_line(piece, at, line, n) {
-            Cut::Line(next, len) => {
-                print_answer(&line[0..len]);
-                at = next;
-                n = 0;
-            }
-            Cut::More(len) => {
-                at = piece.len();
-                n = len;
-            }
-        }
-    }
-    n
-}
-
-fn read_and_serve(input: &mut [u8], line: &mut [u8], held: usize) -> After
-    requires { ⌜ held ≤ length (now line) ⌝ }
-    ensures { λ r. ⌜ heldOf r ≤ length (now (line .entry)) ⌝ }
-{
-    let got = libc::read(0, input);
-    let n = io::count(got, input);
-    if n == 0 {
-        return After::End(held);
-    }
-    After::Go(serve(&input[0..n], line, held))
-}
-
+// Cuts question after question out of the piece at hand, and reads the next piece where it is used up.
 // A proved loop has to end, and nothing says that input does: the turns are counted down from a number
 // that no run uses up.
 fn run(input: &mut [u8], line: &mut [u8]) {
+    let mut size: usize = 0;
+    let mut at: usize = 0;
     let mut held: usize = 0;
     let mut turns = u64::MAX;
     while turns > 0 {
-        match read_and_serve(input, line, held) {
-            After::Go(n) => {
-                held = n;
+        turns -= 1;
+        match pieces::next_line(&input[0..size], at, line, held) {
+            Cut::Line(next, len) => {
+                print_answer(line, len);
+                at = next;
+                held = 0;
             }
-            After::End(n) => {
-                if 0 < n {
-                    print_answer(&line[0..n]);
+            Cut::More(len) => {
+                let got = libc::read(0, input);
+                size = io::count(got, input);
+                if size == 0 {
+                    if 0 < len {
+                        print_answer(line, len);
+                    }
+                    return;
                 }
-                return;
+                at = 0;
+                held = len;
             }
         }
-        turns -= 1;
     }
 }
 

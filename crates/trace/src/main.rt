@@ -4,14 +4,6 @@ use paper::LONGEST_LINE;
 use paper::REPLY_ROOM;
 use paper::Registers;
 use pieces::Cut;
-ghost use Prim.Native.Nat.{_≤_};
-ghost use lib.ListN.{length};
-
-// What a piece of input left: the registers, and how many bytes are held of a line.
-struct Left {
-    registers: Registers,
-    held: usize,
-}
 
 // Prints a reply of n bytes without its 0A, and behind it the numbers; nothing where there is no reply.
 fn print_reply(reply: &[u8], n: usize, refused: u8, blocks: u64) {
@@ -27,9 +19,13 @@ fn print_reply(reply: &[u8], n: usize, refused: u8, blocks: u64) {
     }
 }
 
-fn answer_line(r: Registers, line: &[u8]) -> Registers {
+// The line in the first n bytes of its space.
+fn answer_line(r: Registers, line: &[u8], n: usize) -> Registers {
+    if line.len() < n {
+        return r;
+    }
     let mut reply = [0u8; REPLY_ROOM];
-    let a = module::answer(r, line, &mut reply);
+    let a = module::answer(r, &line[0..n], &mut reply);
     print_reply(&reply, a.length, a.refused, a.blocks);
     a.registers
 }
@@ -41,47 +37,33 @@ fn end(r: Registers, line: &[u8], held: usize) {
     print_reply(&reply, a.length, a.refused, a.blocks);
 }
 
-// Every line that ends in the piece is answered.
-fn serve(r: Registers, piece: &[u8], line: &mut [u8], held: usize) -> Left
-    requires { ⌜ held ≤ length (now line) ⌝ }
-    ensures { λ o. ⌜ o .held ≤ length (now (line .entry)) ⌝ }
-{
-    let mut registers = r;
-    let mut at: usize = 0;
-    let mut n = held;
-    while at < piece.len() {
-        match pieces::next_line(piece, at, line, n) {
-            Cut::Line(next, len) => {
-                registers = answer_line(registers, &line[0..len]);
-                at = next;
-                n = 0;
-            }
-            Cut::More(len) => {
-                at = piece.len();
-                n = len;
-            }
-        }
-    }
-    Left { registers, held: n }
-}
-
-// Reads to the end of the input; the turns are counted down, as a proved loop has to end.
+// Cuts line after line out of the piece at hand, and reads the next piece where it is used up, to the end of the input; the turns
+// are counted down, as a proved loop has to end.
 fn run(input: &mut [u8], line: &mut [u8]) {
     let mut registers = session::fresh();
+    let mut size: usize = 0;
+    let mut at: usize = 0;
     let mut held: usize = 0;
     let mut turns = u64::MAX;
     while turns > 0 {
-        let got = libc::read(0, input);
-        let n = io::count(got, input);
-        if n == 0 {
-            end(registers, line, held);
-            return;
-        }
-        let left = serve(registers, &input[0..n], line, held);
-        let after = left.registers;
-        registers = after;
-        held = left.held;
         turns -= 1;
+        match pieces::next_line(&input[0..size], at, line, held) {
+            Cut::Line(next, len) => {
+                registers = answer_line(registers, line, len);
+                at = next;
+                held = 0;
+            }
+            Cut::More(len) => {
+                let got = libc::read(0, input);
+                size = io::count(got, input);
+                if size == 0 {
+                    end(registers, line, len);
+                    return;
+                }
+                at = 0;
+                held = len;
+            }
+        }
     }
 }
 

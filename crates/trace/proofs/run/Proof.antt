@@ -1,4 +1,4 @@
--- What is held fits the line's space, whichever way a read ends; the turns left fall.
+-- The piece at hand fits the input's buffer, and the spaces keep their lengths; the turns left fall.
 use mathlib.Core.Path.{_≡_, refl}
 use Prim.Native.Nat.{_≤_}
 use native.Mathlib.Omega.{arith}
@@ -8,11 +8,11 @@ use Rattle.trace.proofs.run.Statement.{statement}
 use Rattle.trace.proofs.run.Tie as tie
 
 abbrev Inv-loop : tie.InvT-loop
-Inv-loop input₀ line₀ registers₀ held₀ turns₀ input line registers held turns =
-    (held ≤ length line) × (length input ≡ length input₀) × (length line ≡ length line₀)
+Inv-loop input₀ line₀ registers₀ size₀ at₀ held₀ turns₀ input line registers size at held turns =
+    (size ≤ length input) × (length input ≡ length input₀) × (length line ≡ length line₀)
 
 abbrev μ-loop : tie.MeasureT-loop
-μ-loop input₀ line₀ registers₀ held₀ turns₀ input line registers held turns = turns
+μ-loop input₀ line₀ registers₀ size₀ at₀ held₀ turns₀ input line registers size at held turns = turns
 
 loop-holds : tie.Need-loop-holds Inv-loop μ-loop
 loop-holds c = (omega arith, refl, refl)
@@ -25,16 +25,21 @@ run-spec =
     μ-loop
     (λ c κs. search needs)
     loop-holds
-    (λ c κs. search needs)
-    (λ c κs. search needs)
-    (λ c κs. search needs)
-    (λ c. search needs)
-    (λ c. search needs)
     (λ c. search needs)
     (λ c. search needs)
     (λ c. search needs)
     (λ c. search needs)
     (λ c κs. search needs)
+    (λ c. search needs)
+    (λ c κs. search needs)
+    (λ c. search needs)
+    (λ c. search needs)
+    (λ c. search needs)
+    (λ c κs. search needs)
+    (λ c κs. search needs)
+    (λ c κs. search needs)
+    (λ c. search needs)
+    (λ c. search needs)
     (λ c. search needs)
     (λ c. search needs)
     (λ c. search needs)
