@@ -28,7 +28,7 @@ use Rattle.runs.specs.Run.{after}
 use Rattle.runs.proofs.Runs.{safety}
 use Rattle.runs.proofs.Live.{liveness}
 use Rattle.runs.proofs.Also.{also}
-use Rattle.session.specs.Replies.{toldOf, registersAfter}
+use Rattle.session.specs.Replies.{toldOf, registersBehind}
 use Rattle.session.proofs.Whole.{registers-append}
 use Rattle.demands.specs.Demands.{Call, standing, Kept, turnsOf, OneReply, AsDefined, RepliedAlong, Holds, ByValue, InPlace, MeetsByValue, MeetsInPlace, Input, callsByValue, callsInPlace, spaced, inOrder, Demands}
 
@@ -107,7 +107,7 @@ kept-in-place : (m : InPlace) → MeetsInPlace m → (k : Dig) (is : List Input)
 kept-in-place m h k [] = tt
 kept-in-place m h k (i ∷ is) = (h (standing k (callsInPlace m k is)) (i .line) (i .space), kept-in-place m h k is)
 
-in-session : (k : Dig) (ls : List (List ℕ)) → registersAfter (unopened k) (inOrder ls) ≡ after sha256 k (spaced ls) .registers
+in-session : (k : Dig) (ls : List (List ℕ)) → registersBehind (unopened k) (inOrder ls) ≡ after sha256 k (spaced ls) .registers
 in-session k [] = refl
 in-session k (l ∷ ls) =
     registers-append (unopened k) (inOrder ls) (l ∷ [])

@@ -24,7 +24,7 @@ use Rattle.runs.specs.Endings.{Ending}
 use Rattle.runs.specs.Safety.{Safe}
 use Rattle.runs.specs.Liveness.{AllGrantable, Live}
 use Rattle.runs.specs.Also.{AlsoFor}
-use Rattle.session.specs.Replies.{registersAfter}
+use Rattle.session.specs.Replies.{registersBehind}
 
 -- ── what the demands are of ──
 
@@ -172,7 +172,7 @@ pub record Third : Type 0 where
   -- honest lines from any registers, tree and list that stand, with no run before them
   pub anywhere : AllGrantable sha256
   -- and the registers along a session's lines (`session::serve`) are a run's
-  pub in-session : (k : Dig) (ls : List (List ℕ)) → registersAfter (unopened k) (inOrder ls) ≡ after sha256 k (spaced ls) .registers
+  pub in-session : (k : Dig) (ls : List (List ℕ)) → registersBehind (unopened k) (inOrder ls) ≡ after sha256 k (spaced ls) .registers
 
 -- ── all three ──
 pub record Demands : Type 0 where

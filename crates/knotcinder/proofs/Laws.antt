@@ -3,83 +3,86 @@
 use mathlib.Core.Path.{_≡_, refl, sym, ap, subst, _∙_}
 use mathlib.Core.Bool.{Bool, true, false, not, true≢false}
 use mathlib.Core.List.{List, [], _∷_, _++_}
-use Prim.Native.Nat.{ℕ, _-_, _<_, _≤_}
+use Prim.Native.Nat.{ℕ, _+_, _-_, _<_, _≤_}
 use native.Mathlib.Omega.{arith}
-use lib.ListN.{length, take, drop, length-take, length-drop, drop-of-length-le}
-use lib.Seq.{take-at, length-take-le}
+use lib.ListN.{length, take, drop, length-take, length-drop}
+use lib.Seq.{take-all, take-add, take-at, length-take-le}
 use Rattle.seqs.specs.Over.{putAt, Front, front-next}
-use Rattle.pieces.specs.Whole.{lastOf, endedIn, foundIn}
+use Rattle.pieces.specs.Feeding.{endsLine, feedByte, feedBytes}
+use Rattle.pieces.specs.Cutting.{lineHeld}
+use Rattle.pieces.specs.Whole.{lastLine, endedIn}
+use Rattle.pieces.proofs.Laws.{feed-append}
 use Rattle.paper.specs.declared.Registers.{Registers}
 use Rattle.paper.specs.Strings.{nought}
 use Rattle.paper.specs.Module.{unopened}
-use Rattle.session.specs.Replies.{repliesTo, registersAfter}
-use Rattle.session.proofs.Whole.{Rest, Leads, registers-append}
+use Rattle.session.specs.Replies.{toldOf, repliesTo}
+use Rattle.session.specs.Serving.{SessionAt, sessionWith, carrying}
+use Rattle.session.proofs.Whole.{registers-append}
 use Rattle.knotcinder.specs.declared.Left.{Left}
-use Rattle.knotcinder.specs.Loop.{Reached, Due, Place, behind, behindAll, Standing, Through}
+use Rattle.knotcinder.specs.Loop.{Reached, Due, Standing, Through}
 
 -- ── a piece ──
 
-module _ (p : List ℕ) (s s′ : Registers) (d d′ : List ℕ) (n n′ : ℕ) where
-  pub through : (at : ℕ) → Rest p s d n (drop at p) s′ d′ n′ → length d′ ≡ length d → length p ≤ at
-      → Through s p d n (record { registers = s′; held = n′; written = true }) d′
-  through at r l h =
-      let f = subst (λ (x : List ℕ). Rest p s d n x s′ d′ n′) (drop-of-length-le p h) r in
-      record { fits = omega (arith, f .fits); registers = λ _. f .regs; line = λ _. f .space; held = λ _. f .held }
+-- behind a part of the piece p more
+pub came-next : (p : List ℕ) (c c′ c″ : SessionAt) (at next : ℕ) → at ≤ next → c′ ≡ feedBytes carrying (take at p) c
+    → c″ ≡ feedBytes carrying (take (next - at) (drop at p)) c′ → c″ ≡ feedBytes carrying (take next p) c
+came-next p c c′ c″ at next h e f =
+    let z : at + (next - at) ≡ next = omega arith in
+    let part = take (next - at) (drop at p) in
+    let both : take at p ++ part ≡ take next p = sym (take-add at (next - at) p) ∙ ap (λ (k : ℕ). take k p) z in
+    f ∙ ap (feedBytes carrying part) e ∙ sym (feed-append carrying (λ _. refl) (take at p) part c)
+    ∙ ap (λ (l : List ℕ). feedBytes carrying l c) both
 
-  pub stopped : n′ ≤ length d → Through s p d n (record { registers = s′; held = n′; written = false }) d′
-  stopped h =
-      record {
-        fits = h;
-        registers = λ e. absurd (true≢false (sym e));
-        line = λ e. absurd (true≢false (sym e));
-        held = λ e. absurd (true≢false (sym e));
-      }
+module _ (p : List ℕ) (s s′ : Registers) (d d′ : List ℕ) (n n′ : ℕ) where
+  pub through : (at : ℕ) → sessionWith s′ d′ n′ ≡ feedBytes carrying (take at p) (sessionWith s d n) → n′ ≤ length d → length p ≤ at
+      → Through s p d n (record { registers = s′; held = n′; said = true }) d′
+  through at e f h = record { fits = f; came = λ _. e ∙ rw (take-all at p h) }
+
+  pub stopped : n′ ≤ length d → Through s p d n (record { registers = s′; held = n′; said = false }) d′
+  stopped f = record { fits = f; came = λ e. absurd (true≢false (sym e)) }
 
 -- ── where a session stands ──
 
 pub standing-first : (s : Registers) (d : List ℕ) → s ≡ unopened nought → Standing s d 0
-standing-first s d e = record { pieces = []; space = d; reached = rw e }
+standing-first s d e = record { input = []; space = d; leads = rw e }
 
 not-false : (b : Bool) → not b ≡ false → b ≡ true
 not-false true e = refl
 not-false false e = absurd (true≢false e)
 
 pub standing-next : {s : Registers} {p d : List ℕ} {n : ℕ} {o : Left} {d′ : List ℕ}
-    → Standing s d n → Through s p d n o d′ → not (o .written) ≡ false → Standing (o .registers) d′ (o .held)
+    → Standing s d n → Through s p d n o d′ → not (o .said) ≡ false → Standing (o .registers) d′ (o .held)
 standing-next {p = p} {o = o} t g h =
-    let w = not-false (o .written) h in
     record {
-      pieces = p ∷ t .pieces;
+      input = t .input ++ p;
       space = t .space;
-      reached = rw (g .registers w, g .line w, g .held w) (ap (λ (x : Place). behind x p) (t .reached));
+      leads =
+          feed-append carrying (λ _. refl) (t .input) p (sessionWith (unopened nought) (t .space) 0)
+          ∙ ap (feedBytes carrying p) (t .leads) ∙ sym (g .came (not-false (o .said) h));
     }
 
 -- ── what is written ──
 
-found-in : (ps : List (List ℕ)) (d : List ℕ) → Reached (behindAll ps d .registers)
-found-in [] d = record { lines = []; after = refl }
-found-in (p ∷ ps) d =
-    let t : Place = behindAll ps d in
-    let f = found-in ps d in
-    let l = foundIn p (t .line) (t .held) in
-    record {
-      lines = f .lines ++ l;
-      after =
-          ap (λ (x : Registers). registersAfter x l) (f .after) ∙ sym (registers-append (unopened nought) (f .lines) l);
-    }
+reached-by : (b : ℕ) (c : SessionAt) (v : Bool) → endsLine b ≡ v → Reached (c .registers) → Reached (feedByte carrying c b .registers)
+reached-by b c true e f =
+    let l = lineHeld (c .held) in
+    rw e (record {
+      lines = f .lines ++ (l ∷ []);
+      after = ap (λ (x : Registers). toldOf x l .after) (f .after) ∙ sym (registers-append (unopened nought) (f .lines) (l ∷ []));
+    })
+reached-by b c false e f = rw e f
+
+reached-in : (s : List ℕ) (c : SessionAt) → Reached (c .registers) → Reached (feedBytes carrying s c .registers)
+reached-in [] c f = f
+reached-in (b ∷ s) c f = reached-in s (feedByte carrying c b) (reached-by b c (endsLine b) refl f)
+
+pub reached-next : (s : List ℕ) (c c′ : SessionAt) → c′ ≡ feedBytes carrying s c → Reached (c .registers) → Reached (c′ .registers)
+reached-next s c c′ e f = subst (λ (x : SessionAt). Reached (x .registers)) (sym e) (reached-in s c f)
 
 pub standing-reached : {s : Registers} {d : List ℕ} {n : ℕ} → Standing s d n → Reached s
-standing-reached t =
-    subst (λ (x : Registers). Reached x) (ap (λ (x : Place). x .registers) (t .reached)) (found-in (t .pieces) (t .space))
-
-pub reached-next : {s s′ : Registers} → Reached s → Leads s s′ → Reached s′
-reached-next f a =
-    record {
-      lines = f .lines ++ a .lines;
-      after =
-          a .regs ∙ ap (λ (x : Registers). registersAfter x (a .lines)) (f .after)
-          ∙ sym (registers-append (unopened nought) (f .lines) (a .lines));
-    }
+standing-reached {s = s} {d = d} {n = n} t =
+    reached-next (t .input) (sessionWith (unopened nought) (t .space) 0) (sessionWith s d n) (sym (t .leads))
+    (record { lines = []; after = refl })
 
 -- a space over whose front the first n bytes of d were put
 kept-front : (d k e : List ℕ) (n : ℕ) → n ≤ length d → length d ≤ length k → e ≡ putAt k 0 (take (n - 0) d)
@@ -107,7 +110,7 @@ module _ {s : Registers} (reached : Reached s) where
       }
 
   -- at the end of the input, with something held
-  pub due-last : (l out : List ℕ) (w : ℕ) → 0 < length l → take w out ≡ repliesTo s (lastOf l) → Due s l (0x0a ∷ []) (take (w - 0) out)
+  pub due-last : (l out : List ℕ) (w : ℕ) → 0 < length l → take w out ≡ repliesTo s (lastLine l) → Due s l (0x0a ∷ []) (take (w - 0) out)
   due-last [] out w h e = absurd (omega arith)
   due-last (b ∷ l) out w h e =
       let z : w - 0 ≡ w = omega arith in

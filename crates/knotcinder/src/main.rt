@@ -12,7 +12,7 @@ ghost use Rattle.knotcinder.specs.Loop.{Due, Standing, Through};
 struct Left {
     registers: Registers,
     held: usize,
-    written: bool,
+    said: bool,
 }
 
 // The one place that writes. No contract can say what a call of the system does with these bytes; so the caller has to show
@@ -47,12 +47,12 @@ fn serve_piece(
         fields::put(kept, 0, &line[0..n]);
         let o = session::serve(registers, piece, at, line, n, out);
         let next = o.next;
-        let w = o.written;
+        let w = o.filled;
         if !say(registers, &kept[0..n], &piece[at..next], &out[0..w]) {
             return Left {
                 registers,
                 held: n,
-                written: false,
+                said: false,
             };
         }
         let after = o.registers;
@@ -63,7 +63,7 @@ fn serve_piece(
     Left {
         registers,
         held: n,
-        written: true,
+        said: true,
     }
 }
 
@@ -99,7 +99,7 @@ fn run(input: &mut [u8], line: &mut [u8], kept: &mut [u8], out: &mut [u8])
             return;
         }
         let left = serve_piece(registers, &input[0..n], line, held, kept, out);
-        if !left.written {
+        if !left.said {
             return;
         }
         let after = left.registers;

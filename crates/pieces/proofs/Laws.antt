@@ -1,61 +1,156 @@
--- One byte more of a piece; and that what is found lies within the piece and the space.
-use mathlib.Core.Path.{_≡_, refl, sym, subst, _∙_}
-use mathlib.Core.Bool.{Bool, true, false}
-use mathlib.Core.List.{List, [], _∷_}
+-- What is fed to a taker at a place of a piece; what one search for a line tells of any taker of the same bytes; and that what is
+-- found lies within the piece and the space.
+use mathlib.Core.Path.{_≡_, refl, sym, ap, _∙_}
+use mathlib.Core.Bool.{Bool, true, false, true≢false}
+use mathlib.Core.List.{List, [], _∷_, _++_}
 use Prim.Native.Nat.{ℕ, suc, _+_, _<_, _≤_}
 use native.Mathlib.Numerals.{add-one}
 use native.Mathlib.Omega.{arith}
 use borrow.Author.Tests.{ltb-true}
-use lib.Dec.{eqb, ltb}
-use lib.ListN.{length, getD, set, drop, drop-of-length-le, length-drop}
-use lib.Seq.{drop-cons}
-use Rattle.seqs.specs.Choose.{pick}
+use lib.Dec.{ltb}
+use lib.ListN.{length, getD, drop, length-set, drop-of-length-le, length-drop}
+use lib.Seq.{drop-cons, drop-drop}
 use Rattle.pieces.specs.declared.Cut.{Cut}
 use Rattle.pieces.specs.declared.Cut.the-variants.{Line, More}
-use Rattle.pieces.specs.Cutting.{cutOf, spaceOf, Within}
+use Rattle.pieces.specs.Feeding.{Taker, endsLine, feedByte, feedBytes}
+use Rattle.pieces.specs.Cutting.{Holding, oneMoreHeld, Sought, seeking, soughtIn, cutOf}
 
-module _ (l : List ℕ) (i n : ℕ) where
-  module _ (h : i < length l) where
-    pub cut-step : (room : ℕ) → cutOf (drop i l) i room n
-        ≡ pick (eqb (getD l i 0) 0x0a) (Line (i + 1) n)
-        (pick (ltb n room) (cutOf (drop (i + 1) l) (i + 1) room (n + 1)) (cutOf (drop (i + 1) l) (i + 1) room n))
-    cut-step room = rw (drop-cons l i 0 h) (rw add-one)
+-- ── any taker ──
 
-    pub space-step : (d : List ℕ) → spaceOf (drop i l) d n
-        ≡ pick (eqb (getD l i 0) 0x0a) d
-        (pick (ltb n (length d)) (spaceOf (drop (i + 1) l) (set d n (getD l i 0)) (n + 1)) (spaceOf (drop (i + 1) l) d n))
-    space-step d = rw (drop-cons l i 0 h) (rw (add-one i))
+-- a search at place i, with n bytes held in d, that found a line's end or did not; and one that goes on
+abbrev pub at-place : ℕ → List ℕ → ℕ → Bool → Sought
+at-place i d n w = record { place = i; held = record { space = d; count = n }; ended = w }
 
-  module _ (h : length l ≤ i) where
-    pub cut-end : (room : ℕ) → cutOf (drop i l) i room n ≡ More n
-    cut-end room = rw (drop-of-length-le l h)
+abbrev pub going : ℕ → Holding → Sought
+going i h = record { place = i; held = h; ended = false }
 
-    pub space-end : (d : List ℕ) → spaceOf (drop i l) d n ≡ d
-    space-end d = rw (drop-of-length-le l h)
+-- behind one more byte of a piece p
+pub drop-next : (p s : List ℕ) (b i : ℕ) → drop i p ≡ b ∷ s → drop (i + 1) p ≡ s
+drop-next p s b i e = sym (drop-drop 1 i p) ∙ ap (λ (l : List ℕ). drop 1 l) e
 
--- A line found ends behind the place where the search for it began, within the piece, and fits the space.
-weaken : (r : Cut) (i k room : ℕ) → Within r (i + 1) (i + 1 + k) room → Within r i (i + suc k) room
-weaken (Line next m) i k room h = (omega arith, omega arith, omega arith)
-weaken (More m) i k room h = h
+module _ {S : Type 0} (k : Taker S) where
+  -- one that stops takes nothing
+  pub stays : (s : List ℕ) (t : S) → k .stops t ≡ true → feedBytes k s t ≡ t
+  stays [] t h = refl
+  stays (b ∷ s) t h = rw h
 
-within-step : (s : List ℕ) (i n room : ℕ) (p q : Bool) → n ≤ room → ltb n room ≡ q
-    → ((m : ℕ) → m ≤ room → Within (cutOf s (i + 1) room m) (i + 1) (i + 1 + length s) room)
-    → Within (pick p (Line (i + 1) n) (pick q (cutOf s (i + 1) room (n + 1)) (cutOf s (i + 1) room n))) i (i + suc (length s)) room
-within-step s i n room true q h e ih = (omega arith, omega arith, h)
-within-step s i n room false true h e ih = weaken (cutOf s (i + 1) room (n + 1)) i (length s) room (ih (n + 1) (omega (arith, ltb-true)))
-within-step s i n room false false h e ih = weaken (cutOf s (i + 1) room n) i (length s) room (ih n h)
+  -- one more byte of a piece, and its end
+  pub feed-next : (p : List ℕ) (i : ℕ) (t : S) → i < length p → k .stops t ≡ false
+      → feedBytes k (drop i p) t ≡ feedBytes k (drop (i + 1) p) (feedByte k t (getD p i 0))
+  feed-next p i t h e = rw (drop-cons p i 0 h, e, add-one)
 
-within-list : (s : List ℕ) (i n room : ℕ) → n ≤ room → Within (cutOf s i room n) i (i + length s) room
-within-list [] i n room h = h
-within-list (b ∷ s) i n room h =
-    within-step s i n room (eqb b 0x0a) (ltb n room) h refl (λ m. within-list s (i + 1) m room)
+  pub feed-end : (p : List ℕ) (i : ℕ) (t : S) → length p ≤ i → feedBytes k (drop i p) t ≡ t
+  feed-end p i t h = rw (drop-of-length-le p h)
 
-pub within : (l : List ℕ) (at n room : ℕ) → at ≤ length l → n ≤ room → Within (cutOf (drop at l) at room n) at (length l) room
-within l at n room h k =
-    let e : at + length (drop at l) ≡ length l = simp length-drop (omega arith) in
-    rw e at (within-list (drop at l) at n room k)
+  -- bytes behind others, where it takes them all
+  pub feed-append : ((t : S) → k .stops t ≡ false) → (p q : List ℕ) (t : S)
+      → feedBytes k (p ++ q) t ≡ feedBytes k q (feedBytes k p t)
+  feed-append on [] q t = refl
+  feed-append on (b ∷ p) q t = rw (on t) (feed-append on p q (feedByte k t b))
 
--- the same of an answer s that a call gave
-pub found : (l : List ℕ) (at n room : ℕ) (r s : Cut) → r ≡ cutOf (drop at l) at room n → r ≡ s → at ≤ length l → n ≤ room
-    → Within s at (length l) room
-found l at n room r s e g h k = subst (λ (x : Cut). Within x at (length l) room) (sym e ∙ g) (within l at n room h k)
+-- ── a search ──
+
+-- What a search comes to stands for the taker, by `by`: where it goes on, and behind a line's end. Then behind the bytes searched
+-- the taker comes to what stands for the search, and is fed the rest of the piece.
+module _ {S : Type 0} (k : Taker S) (by : Sought → S) (p : List ℕ)
+    (on : (i : ℕ) (h : Holding) → k .stops (by (going i h)) ≡ false)
+    (at-end : (i : ℕ) (h : Holding) → k .lineEnd (by (going i h)) ≡ by (seeking .lineEnd (going i h)))
+    (at-byte : (i : ℕ) (h : Holding) (b : ℕ) → k .lineByte (by (going i h)) b ≡ by (seeking .lineByte (going i h) b)) where
+  abbrev behind : List ℕ → ℕ → Holding → S
+  behind s i h = feedBytes k (drop (feedBytes seeking s (going i h) .place) p) (by (feedBytes seeking s (going i h)))
+
+  first-by : (s : List ℕ) (b i : ℕ) (h : Holding) (u : Bool) → endsLine b ≡ u → drop (i + 1) p ≡ s
+      → ((g : Holding) → feedBytes k s (by (going (i + 1) g)) ≡ behind s (i + 1) g)
+      → feedBytes k (b ∷ s) (by (going i h)) ≡ behind (b ∷ s) i h
+  first-by s b i h true eu e ih =
+      rw (on i h, eu, at-end i h, stays seeking s (seeking .lineEnd (going i h)) refl, e)
+  first-by s b i h false eu e ih = rw (on i h, eu, at-byte i h b) (ih (oneMoreHeld h b))
+
+  pub sought-first : (s : List ℕ) (i : ℕ) (h : Holding) → drop i p ≡ s
+      → feedBytes k s (by (going i h)) ≡ behind s i h
+  sought-first [] i h e = rw e
+  sought-first (b ∷ s) i h e =
+      let f = drop-next p s b i e in
+      first-by s b i h (endsLine b) refl f (λ g. sought-first s (i + 1) g f)
+
+-- ── where a search ends ──
+
+-- what is held fits a space of so many bytes
+abbrev pub InRoom : ℕ → Holding → Type 0
+InRoom room h = (length (h .space) ≡ room) × (h .count ≤ room)
+
+fits-by : (room b : ℕ) (h : Holding) (v : Bool) → ltb (h .count) (length (h .space)) ≡ v → InRoom room h → InRoom room (oneMoreHeld h b)
+fits-by room b h true e f = rw e (simp length-set (f .0), omega (arith, ltb-true))
+fits-by room b h false e f = rw e f
+
+fits-more : (room b : ℕ) (h : Holding) → InRoom room h → InRoom room (oneMoreHeld h b)
+fits-more room b h f = fits-by room b h (ltb (h .count) (length (h .space))) refl f
+
+-- A search from place i to the end of its bytes came to u: behind i where it found a line's end, else at the end; what is held fits.
+record Lies (room i end : ℕ) (u : Sought) : Type 0 where
+  onward : u .ended ≡ true → i < u .place
+  upto : u .place ≤ end
+  used-up : u .ended ≡ false → u .place ≡ end
+  fits : InRoom room (u .held)
+
+lies-by : (s : List ℕ) (b room i : ℕ) (h : Holding) (u : Bool) → endsLine b ≡ u → InRoom room h
+    → ((g : Holding) → InRoom room g → Lies room (i + 1) (i + 1 + length s) (feedBytes seeking s (going (i + 1) g)))
+    → Lies room i (i + suc (length s)) (feedBytes seeking (b ∷ s) (going i h))
+lies-by s b room i h true eu f ih =
+    rw (eu, stays seeking s (seeking .lineEnd (going i h)) refl)
+    (record { onward = λ _. omega arith; upto = omega arith; used-up = λ e. absurd (true≢false e); fits = f })
+lies-by s b room i h false eu f ih =
+    let g = ih (oneMoreHeld h b) (fits-more room b h f) in
+    rw eu (record {
+      onward = λ e. omega (arith, g .onward e);
+      upto = omega (arith, g .upto);
+      used-up = λ e. omega (arith, g .used-up e);
+      fits = g .fits;
+    })
+
+search-lies : (s : List ℕ) (room i : ℕ) (h : Holding) → InRoom room h → Lies room i (i + length s) (feedBytes seeking s (going i h))
+search-lies [] room i h f =
+    record { onward = λ e. absurd (true≢false (sym e)); upto = omega arith; used-up = λ _. omega arith; fits = f }
+search-lies (b ∷ s) room i h f = lies-by s b room i h (endsLine b) refl f (λ g. search-lies s room (i + 1) g)
+
+-- ── what a call of `next_line` tells ──
+
+-- a search that is told as a line, and one that is told as more
+cut-line : (w : Bool) (i : ℕ) (d : List ℕ) (n next m : ℕ) → cutOf (at-place i d n w) ≡ Line next m
+    → at-place i d n w ≡ at-place next d m true
+cut-line true i d n next m e =
+    let a : i ≡ next = cc in
+    let b : n ≡ m = cc in
+    rw (a, b)
+cut-line false i d n next m e = let z : _≡_ {A = ℕ} 0 1 = cc in absurd (omega arith)
+
+cut-more : (w : Bool) (i : ℕ) (d : List ℕ) (n m : ℕ) → cutOf (at-place i d n w) ≡ More m
+    → at-place i d n w ≡ at-place i d m false
+cut-more true i d n m e = let z : _≡_ {A = ℕ} 0 1 = cc in absurd (omega arith)
+cut-more false i d n m e = let b : n ≡ m = cc in rw b
+
+-- The call at place `at` of the piece p, with n bytes held in the space d, returned r and left d′ there.
+module _ (p d d′ : List ℕ) (at n : ℕ) (r : Cut) (told : r ≡ cutOf (soughtIn p at d n)) (left : d′ ≡ soughtIn p at d n .held .space)
+    (h : at ≤ length p) (k : n ≤ length d) where
+  abbrev came : Sought
+  came = soughtIn p at d n
+
+  lies-in : (v : Sought) → came ≡ v → Lies (length d) at (length p) v
+  lies-in v e =
+      let end : at + length (drop at p) ≡ length p = simp length-drop (omega arith) in
+      rw (← e, ← end) (search-lies (drop at p) (length d) at (record { space = d; count = n }) (refl, k))
+
+  pub line-found : (next m : ℕ) → r ≡ Line next m
+      → (came ≡ at-place next d′ m true) × (at < next) × (next ≤ length p) × (m ≤ length d)
+  line-found next m e =
+      let f : came ≡ at-place next d′ m true =
+      cut-line (came .ended) (came .place) (came .held .space) (came .held .count) next m (sym told ∙ e) ∙ rw left in
+      let l = lies-in (at-place next d′ m true) f in
+      (f, l .onward refl, l .upto, l .fits .1)
+
+  pub more-found : (m : ℕ) → r ≡ More m → (came ≡ at-place (length p) d′ m false) × (m ≤ length d)
+  more-found m e =
+      let f : came ≡ at-place (came .place) d′ m false =
+      cut-more (came .ended) (came .place) (came .held .space) (came .held .count) m (sym told ∙ e) ∙ rw left in
+      let l = lies-in (at-place (came .place) d′ m false) f in
+      (f ∙ rw (l .used-up refl), l .fits .1)

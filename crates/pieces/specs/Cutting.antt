@@ -1,32 +1,55 @@
--- Lines cut out of pieces of input, byte by byte, in a space of any size.
--- A line's bytes go behind those held of it; those that find no room are dropped, so that a space of one
--- byte more than the longest good line tells a longer one by its length.
-use mathlib.Core.List.{List, [], _∷_}
-use Prim.Native.Nat.{ℕ, _+_, _<_, _≤_}
-use lib.Dec.{eqb, ltb}
-use lib.ListN.{length, set}
+-- Lines cut out of pieces of input, in a space of any size.
+use mathlib.Core.Bool.{Bool, true, false}
+use mathlib.Core.List.{List}
+use Prim.Native.Nat.{ℕ, _+_}
+use lib.Dec.{ltb}
+use lib.ListN.{length, take, drop, set}
 use Rattle.seqs.specs.Choose.{pick}
+use Rattle.pieces.specs.Feeding.{Taker, feedBytes}
 use Rattle.pieces.specs.declared.Cut.{Cut}
 use Rattle.pieces.specs.declared.Cut.the-variants.{Line, More}
 
--- what the rest of a piece gives: the rest begins at place i, and n bytes are held in a space of room bytes
-abbrev pub cutOf : List ℕ → ℕ → ℕ → ℕ → Cut
-cutOf [] i room n = More n
-cutOf (b ∷ rest) i room n =
-    pick (eqb b 0x0a)
-    (Line (i + 1) n)
-    (pick (ltb n room) (cutOf rest (i + 1) room (n + 1)) (cutOf rest (i + 1) room n))
+-- ── what is held of a line ──
 
--- the line's space then
-abbrev pub spaceOf : List ℕ → List ℕ → ℕ → List ℕ
-spaceOf [] d n = d
-spaceOf (b ∷ rest) d n =
-    pick (eqb b 0x0a)
-    d
-    (pick (ltb n (length d)) (spaceOf rest (set d n b) (n + 1)) (spaceOf rest d n))
+-- a space, and how many of its bytes are a line's, as far as it has come
+pub record Holding : Type 0 where
+  pub space : List ℕ
+  pub count : ℕ
 
--- an answer to a search from place i in a piece that ends at `end`, with a space of room bytes: it went on,
--- not past the end, and what it holds fits
-abbrev pub Within : Cut → ℕ → ℕ → ℕ → Type 0
-Within (Line next n) i end room = (i < next) × (next ≤ end) × (n ≤ room)
-Within (More n) i end room = n ≤ room
+abbrev pub lineHeld : Holding → List ℕ
+lineHeld h = take (h .count) (h .space)
+
+-- of the next line nothing yet
+abbrev pub nothingHeld : Holding → Holding
+nothingHeld h = record { space = h .space; count = 0 }
+
+-- A byte more goes behind those held. One that finds no room is dropped, so that a space of one byte more than the longest
+-- good line tells a longer one by its length.
+abbrev pub oneMoreHeld : Holding → ℕ → Holding
+oneMoreHeld h b = pick (ltb (h .count) (length (h .space))) (record { space = set (h .space) (h .count) b; count = h .count + 1 }) h
+
+-- ── the search for the next line ──
+
+-- Where it stands: the place in the piece, what is held, and whether the line ended.
+pub record Sought : Type 0 where
+  pub place : ℕ
+  pub held : Holding
+  pub ended : Bool
+
+-- it stops behind the line's end
+abbrev pub seeking : Taker Sought
+seeking =
+    record {
+      lineEnd = λ t. record { place = t .place + 1; held = t .held; ended = true };
+      lineByte = λ t b. record { place = t .place + 1; held = oneMoreHeld (t .held) b; ended = false };
+      stops = λ t. t .ended;
+    }
+
+-- in a piece p from place `at` on, with n bytes held in the space d
+abbrev pub soughtIn : (p : List ℕ) (at : ℕ) (d : List ℕ) (n : ℕ) → Sought
+soughtIn p at d n =
+    feedBytes seeking (drop at p) (record { place = at; held = record { space = d; count = n }; ended = false })
+
+-- what that is told as
+abbrev pub cutOf : Sought → Cut
+cutOf t = pick (t .ended) (Line (t .place) (t .held .count)) (More (t .held .count))

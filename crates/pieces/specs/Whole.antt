@@ -2,33 +2,62 @@
 -- over and over.
 -- Document 01, "Lines": "The program takes a last piece without 0A, if it isn't empty, as if 0A followed; empty input
 -- gives empty output."
+use mathlib.Core.Bool.{false}
 use mathlib.Core.List.{List, [], _∷_, _++_, map}
-use Prim.Native.Nat.{ℕ, _+_}
-use lib.Dec.{eqb, ltb}
-use lib.ListN.{length, take, set}
+use Prim.Native.Nat.{ℕ}
+use lib.Dec.{ltb}
+use lib.ListN.{take}
 use Rattle.seqs.specs.Choose.{pick}
+use Rattle.pieces.specs.Feeding.{Taker, feedBytes}
+use Rattle.pieces.specs.Cutting.{Holding, lineHeld, nothingHeld, oneMoreHeld}
+
+-- ── lines gathered ──
+
+-- A way to keep the line that has not ended yet: as a line; what is kept of the next one, nothing yet; and a byte more.
+pub record Keeping (H : Type 0) : Type 0 where
+  pub asLine : H → List ℕ
+  pub emptied : H → H
+  pub oneMore : H → ℕ → H
+
+-- the lines that ended, and what is kept of the one that has not
+pub record Gathered (H : Type 0) : Type 0 where
+  pub lines : List (List ℕ)
+  pub begun : H
+
+abbrev pub gathering : {H : Type 0} → Keeping H → Taker (Gathered H)
+gathering w =
+    record {
+      lineEnd = λ t. record { lines = t .lines ++ (w .asLine (t .begun) ∷ []); begun = w .emptied (t .begun) };
+      lineByte = λ t b. record { lines = t .lines; begun = w .oneMore (t .begun) b };
+      stops = λ _. false;
+    }
+
+-- no lines yet, with h kept of the first; and what the bytes s then give
+abbrev pub noLines : {H : Type 0} → H → Gathered H
+noLines h = record { lines = []; begun = h }
+
+abbrev pub gatheredIn : {H : Type 0} → Keeping H → List ℕ → H → Gathered H
+gatheredIn w s h = feedBytes (gathering w) s (noLines h)
+
+-- what is kept at the end of the input is a line if it isn't empty
+abbrev pub lastLine : List ℕ → List (List ℕ)
+lastLine [] = []
+lastLine (b ∷ l) = (b ∷ l) ∷ []
 
 -- ── the whole input ──
 
--- what follows the last 0A is a line if it isn't empty
-abbrev pub lastOf : List ℕ → List (List ℕ)
-lastOf [] = []
-lastOf (b ∷ l) = (b ∷ l) ∷ []
-
--- the lines of the rest of an input, l being what was read since the last 0A
-abbrev pub linesFrom : List ℕ → List ℕ → List (List ℕ)
-linesFrom l [] = lastOf l
-linesFrom l (b ∷ s) = pick (eqb b 0x0a) (l ∷ linesFrom [] s) (linesFrom (l ++ (b ∷ [])) s)
+-- a line kept in full
+abbrev pub inFull : Keeping (List ℕ)
+inFull = record { asLine = λ l. l; emptied = λ _. []; oneMore = λ l b. l ++ (b ∷ []) }
 
 -- the lines of a whole input, without their 0A
-abbrev pub linesOf : List ℕ → List (List ℕ)
-linesOf s = linesFrom [] s
+abbrev pub inputLines : List ℕ → List (List ℕ)
+inputLines s = let t = gatheredIn inFull s [] in t .lines ++ lastLine (t .begun)
 
 -- the lines that end in a part of an input, l being what was read since the last 0A before it: what follows the last 0A in
 -- the part is no line yet
 abbrev pub endedIn : List ℕ → List ℕ → List (List ℕ)
-endedIn l [] = []
-endedIn l (b ∷ s) = pick (eqb b 0x0a) (l ∷ endedIn [] s) (endedIn (l ++ (b ∷ [])) s)
+endedIn l s = gatheredIn inFull s l .lines
 
 -- every line cut to its first `room` bytes
 abbrev pub cutTo : ℕ → List (List ℕ) → List (List ℕ)
@@ -36,34 +65,17 @@ cutTo room ls = map (take room) ls
 
 -- ── the input in pieces ──
 
--- the lines that the rest of a piece gives, n bytes of the first one being held in the space d: byte by byte, as in
--- `cutOf` and `spaceOf`, and on behind each 0A with nothing held; that these are the lines that `next_line` gives, call
--- by call, is `line-found` and `more-found` of proofs/Whole.antt
-abbrev pub foundIn : List ℕ → List ℕ → ℕ → List (List ℕ)
-foundIn [] d n = []
-foundIn (b ∷ rest) d n =
-    pick (eqb b 0x0a)
-    (take n d ∷ foundIn rest d 0)
-    (pick (ltb n (length d)) (foundIn rest (set d n b) (n + 1)) (foundIn rest d n))
+-- a line kept in a space
+abbrev pub inSpace : Keeping Holding
+inSpace = record { asLine = lineHeld; emptied = nothingHeld; oneMore = oneMoreHeld }
 
--- the space when the piece is used up
-abbrev pub spaceLeft : List ℕ → List ℕ → ℕ → List ℕ
-spaceLeft [] d n = d
-spaceLeft (b ∷ rest) d n =
-    pick (eqb b 0x0a)
-    (spaceLeft rest d 0)
-    (pick (ltb n (length d)) (spaceLeft rest (set d n b) (n + 1)) (spaceLeft rest d n))
+-- the lines that pieces give, in order, behind what was gathered before them: what is held goes over to the next piece, and makes
+-- a last line if any byte is held. That a piece gives the lines that `next_line` finds in it, call by call, is `found-first` of
+-- proofs/Whole.antt.
+abbrev pub foundIn : List (List ℕ) → Gathered Holding → List (List ℕ)
+foundIn [] t = t .lines ++ pick (ltb 0 (t .begun .count)) (lineHeld (t .begun) ∷ []) []
+foundIn (p ∷ ps) t = foundIn ps (feedBytes (gathering inSpace) p t)
 
--- and how many bytes of the next line it holds
-abbrev pub heldLeft : List ℕ → List ℕ → ℕ → ℕ
-heldLeft [] d n = n
-heldLeft (b ∷ rest) d n =
-    pick (eqb b 0x0a)
-    (heldLeft rest d 0)
-    (pick (ltb n (length d)) (heldLeft rest (set d n b) (n + 1)) (heldLeft rest d n))
-
--- the lines that all pieces give, in order: what is held goes over to the next piece, and makes a last line if it is
--- not nothing
-abbrev pub foundInAll : List (List ℕ) → List ℕ → ℕ → List (List ℕ)
-foundInAll [] d n = pick (ltb 0 n) (take n d ∷ []) []
-foundInAll (p ∷ ps) d n = foundIn p d n ++ foundInAll ps (spaceLeft p d n) (heldLeft p d n)
+-- and those of a whole input in pieces, in the space d
+abbrev pub foundInAll : List (List ℕ) → (d : List ℕ) → List (List ℕ)
+foundInAll ps d = foundIn ps (noLines (record { space = d; count = 0 }))

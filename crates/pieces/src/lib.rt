@@ -1,7 +1,6 @@
 // Lines cut out of pieces of input.
 ghost use mathlib.Core.Path.{_≡_};
-ghost use lib.ListN.{length, drop};
-ghost use Rattle.pieces.specs.Cutting.{cutOf, spaceOf};
+ghost use Rattle.pieces.specs.Cutting.{soughtIn, cutOf};
 
 // What the rest of a piece gave.
 pub enum Cut {
@@ -13,8 +12,8 @@ pub enum Cut {
 
 // Puts the bytes of the piece from place `at` on behind the held ones, up to 0A.
 pub fn next_line(piece: &[u8], at: usize, line: &mut [u8], held: usize) -> Cut
-    ensures { λ r. ⌜ r ≡ cutOf (drop at (now (piece .entry))) at (length (now (line .entry))) held ⌝ }
-    ensures { λ _. ⌜ now (line .exit) ≡ spaceOf (drop at (now (piece .entry))) (now (line .entry)) held ⌝ }
+    ensures { λ r. ⌜ r ≡ cutOf (soughtIn (now (piece .entry)) at (now (line .entry)) held) ⌝ }
+    ensures { λ _. ⌜ now (line .exit) ≡ soughtIn (now (piece .entry)) at (now (line .entry)) held .held .space ⌝ }
 {
     let mut i = at;
     let mut n = held;

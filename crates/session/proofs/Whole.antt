@@ -1,38 +1,39 @@
 -- The statements of specs/Program: what is written for an input in pieces is the replies to the lines of the whole.
--- A call of `serve` writes the replies to some of the lines that `pieces` finds in the rest of a piece, and what is left
--- to find behind it are the others; so for a piece, so for all pieces, and these lines are those of the whole input.
+-- A call of `serve` takes a part of the input, as a session without an output takes it, and writes the replies to the lines that
+-- end in the part; so for a piece, so for all pieces, and these are the lines of the whole input.
 use mathlib.Core.Path.{_≡_, refl, sym, ap, subst, _∙_}
-use mathlib.Core.Bool.{Bool, true, false}
+use mathlib.Core.Bool.{Bool, true, false, true≢false}
 use mathlib.Core.List.{List, [], _∷_, _++_, append-assoc, append-nil, flatten}
 use Prim.Native.Nat.{ℕ, zero, suc, _+_, _-_, _<_, _≤_, min}
 use native.Mathlib.Decide.{decLe}
 use native.Mathlib.Omega.{arith}
 use borrow.Author.Tests.{ltb-true, ltb-false, le-ltb}
-use lib.Dec.{eqb, ltb}
-use lib.ListN.{length, take, drop, set, length-append, length-take, length-drop, length-set, drop-of-length-le}
+use lib.Dec.{ltb}
+use lib.ListN.{length, take, drop, take-append-drop, length-append, length-take, length-drop, drop-of-length-le}
 use lib.Seq.{take-all, take-at, length-take-le, drop-drop}
-use Rattle.seqs.specs.Choose.{pick}
-use Rattle.pieces.specs.Whole.{lastOf, linesOf, endedIn, cutTo, foundIn, spaceLeft, heldLeft, foundInAll}
-use Rattle.pieces.proofs.Whole.{found-ended, cut-anyhow}
+use Rattle.pieces.specs.Feeding.{endsLine, feedByte, feedBytes}
+use Rattle.pieces.specs.Cutting.{Holding, lineHeld}
+use Rattle.pieces.specs.Whole.{Gathered, gathering, inFull, noLines, lastLine, endedIn}
+use Rattle.pieces.proofs.Laws.{feed-append}
+use Rattle.pieces.proofs.Whole.{Holds, holds-none, holds-part, holds-fits, holds-more}
 use Rattle.paper.specs.declared.Registers.{Registers}
 use Rattle.paper.specs.Module.{Told, replyLine}
 use Rattle.paper.specs.Refusals.{longestLine, replyRoom}
 use Rattle.lines.proofs.Outcomes.{too-long}
 use Rattle.module.specs.declared.Answered.{Answered}
 use Rattle.module.proofs.Laws.{without-room, with-room, not-hex}
-use Rattle.session.specs.Replies.{toldOf, repliesTo, registersAfter}
+use Rattle.session.specs.Replies.{toldOf, repliesTo, registersBehind}
 use Rattle.session.specs.declared.Served.{Served}
-use Rattle.session.specs.Serving.{Stand, answerAt, outAfter, servedFrom, servedOf, ServedAs, lastAnswer, lastReply, FinishedAs}
-use Rattle.session.specs.Program.{Turned, pieceFrom, pieceOf, writtenFor, WholeInput, OneServing, OneFinish, FinishWithoutRoom}
+use Rattle.session.specs.Serving.{SessionAt, sessionWith, carrying, Stand, outAfter, serving, servedOf, ServedAs, answerAtEnd, replyAtEnd, FinishedAs}
+use Rattle.session.specs.Program.{Progress, wroteOn, pieceFrom, pieceOf, wroteFor, WholeInput, OneServing, OneFinish, FinishWithoutRoom}
 
 -- ── replies ──
 
-replies-append : (s : Registers) (l m : List (List ℕ)) → repliesTo s (l ++ m) ≡ repliesTo s l ++ repliesTo (registersAfter s l) m
+replies-append : (s : Registers) (l m : List (List ℕ)) → repliesTo s (l ++ m) ≡ repliesTo s l ++ repliesTo (registersBehind s l) m
 replies-append s [] m = refl
-replies-append s (x ∷ l) m =
-    rw (replies-append (toldOf s x .after) l m, append-assoc)
+replies-append s (x ∷ l) m = rw (replies-append (toldOf s x .after) l m, append-assoc)
 
-pub registers-append : (s : Registers) (l m : List (List ℕ)) → registersAfter s (l ++ m) ≡ registersAfter (registersAfter s l) m
+pub registers-append : (s : Registers) (l m : List (List ℕ)) → registersBehind s (l ++ m) ≡ registersBehind (registersBehind s l) m
 registers-append s [] m = refl
 registers-append s (x ∷ l) m = registers-append (toldOf s x .after) l m
 
@@ -46,50 +47,27 @@ told-by s l room h (no k) =
 told-cut : (s : Registers) (l : List ℕ) (room : ℕ) → longestLine < room → toldOf s (take room l) ≡ toldOf s l
 told-cut s l room h = told-by s l room h (decLe (length l) room)
 
-replies-cut : (s : Registers) (ls : List (List ℕ)) (room : ℕ) → longestLine < room → repliesTo s (cutTo room ls) ≡ repliesTo s ls
-replies-cut s [] room h = refl
-replies-cut s (l ∷ ls) room h = rw (told-cut s l room h, replies-cut (toldOf s l .after) ls room h)
+last-cut : (s : Registers) (l : List ℕ) (room : ℕ) → longestLine < room → repliesTo s (lastLine (take room l)) ≡ repliesTo s (lastLine l)
+last-cut s l zero h = absurd (omega arith)
+last-cut s [] (suc room) h = refl
+last-cut s (b ∷ l) (suc room) h = ap (λ (x : Told). replyLine x ++ []) (told-cut s (b ∷ l) (suc room) h)
 
 -- ── one call of `serve` ──
 
--- Serving the rest of the piece p came to t: it answered `lines`, the first of those that were to find, which are those in the
--- part that it went through, and what is left to find are the others; the replies to them stand behind what stood in the output,
--- and the registers are those behind them.
-record Goes (p : List ℕ) (t : Stand) (rest : List ℕ) (i : ℕ) (s : Registers) (d : List ℕ) (n : ℕ) (o : List ℕ) (w : ℕ)
-    : Type 0 where
-  lines : List (List ℕ)
-  found : foundIn rest d n ≡ lines ++ foundIn (drop (t .next) p) (t .line) (t .held)
-  part : lines ≡ foundIn (take (t .next - i) rest) d n
-  bytes : take (t .written) (t .out) ≡ take w o ++ repliesTo s lines
-  regs : t .registers ≡ registersAfter s lines
-  space : spaceLeft (drop (t .next) p) (t .line) (t .held) ≡ spaceLeft rest d n
-  held : heldLeft (drop (t .next) p) (t .line) (t .held) ≡ heldLeft rest d n
-  from : i ≤ t .next
-  upto : t .next ≤ i + length rest
-  room : t .written ≤ length (t .out)
-  longer : length o ≤ length (t .out)
-  fits : t .held ≤ length (t .line)
+-- A session from registers s wrote b: it stands at c in its input, and u is its input as lines. Then the registers are those behind
+-- these lines, what is held is what has come of the next one, and b is the replies.
+record Stands (s : Registers) (room : ℕ) (b : List ℕ) (c : SessionAt) (u : Gathered (List ℕ)) : Type 0 where
+  regs : c .registers ≡ registersBehind s (u .lines)
+  held : Holds room (c .held) (u .begun)
+  bytes : b ≡ repliesTo s (u .lines)
 
--- Of that, what the registers and the line's space tell: from s, d and n the bytes `rest` come to what the bytes `rest′` come to
--- from s′, d′ and n′.
-pub record Rest (rest : List ℕ) (s : Registers) (d : List ℕ) (n : ℕ)
-    (rest′ : List ℕ) (s′ : Registers) (d′ : List ℕ) (n′ : ℕ) : Type 0 where
-  pub regs : registersAfter s′ (foundIn rest′ d′ n′) ≡ registersAfter s (foundIn rest d n)
-  pub space : spaceLeft rest′ d′ n′ ≡ spaceLeft rest d n
-  pub held : heldLeft rest′ d′ n′ ≡ heldLeft rest d n
-  pub fits : n′ ≤ length d′
-
-pub rest-start : (p : List ℕ) (s : Registers) (d : List ℕ) (n : ℕ) → n ≤ length d → Rest p s d n (drop 0 p) s d n
-rest-start p s d n h = record { regs = refl; space = refl; held = refl; fits = h }
-
-pub rest-then : {p p′ p″ : List ℕ} {s s′ s″ : Registers} {d d′ d″ : List ℕ} {n n′ n″ : ℕ}
-    → Rest p s d n p′ s′ d′ n′ → Rest p′ s′ d′ n′ p″ s″ d″ n″ → Rest p s d n p″ s″ d″ n″
-rest-then f g =
-    record { regs = g .regs ∙ f .regs; space = g .space ∙ f .space; held = g .held ∙ f .held; fits = g .fits }
-
--- a place k behind i is one more from i than from i + 1
-one-more : (k i : ℕ) → i + 1 ≤ k → k - i ≡ suc (k - (i + 1))
-one-more k i h = omega arith
+-- Serving stands at t, at place i of a piece, where the session wrote b before and the replies in the output are still to be written.
+record Along (s : Registers) (room : ℕ) (b : List ℕ) (long i : ℕ) (t : Stand) (c : SessionAt) (u : Gathered (List ℕ)) : Type 0 where
+  stands : Stands s room (b ++ take (t .filled) (t .out)) c u
+  session : t .session ≡ c
+  next : t .next ≡ i
+  within : t .filled ≤ length (t .out)
+  longer : long ≤ length (t .out)
 
 -- a reply behind others
 module _ (t : Told) (o : List ℕ) (w : ℕ) (h : w ≤ length o) where
@@ -102,202 +80,135 @@ module _ (t : Told) (o : List ℕ) (w : ℕ) (h : w ≤ length o) where
       ∙ take-at (take w o ++ replyLine t) (drop (length (replyLine t)) (drop w o)) (w + length (replyLine t))
       (simp (length-append, length-take) (omega arith))
 
-module _ (p : List ℕ) where
-  goes-by : (rest : List ℕ) (b i : ℕ) (s : Registers) (d : List ℕ) (n : ℕ) (o : List ℕ) (w : ℕ) (r u v : Bool)
-      → ltb (length o - w) replyRoom ≡ r → eqb b 0x0a ≡ u → ltb n (length d) ≡ v
-      → drop i p ≡ b ∷ rest → w ≤ length o → n ≤ length d
-      → ((s : Registers) (e : List ℕ) (k : ℕ) (q : List ℕ) (x : ℕ) → x ≤ length q → k ≤ length e
-      → Goes p (servedFrom rest (i + 1) s e k q x) rest (i + 1) s e k q x)
-      → Goes p (servedFrom (b ∷ rest) i s d n o w) (b ∷ rest) i s d n o w
-  goes-by rest b i s d n o w true u v er eu ev e h k ih =
-      rw er (record {
-        lines = [];
-        found = rw e;
-        part = let z : i - i ≡ 0 = omega arith in rw z;
-        bytes = sym (append-nil (take w o));
-        regs = refl;
-        space = rw e;
-        held = rw e;
-        from = omega arith;
-        upto = omega arith;
-        room = h;
-        longer = omega arith;
-        fits = k;
-      })
-  goes-by rest b i s d n o w false true v er eu ev e h k ih =
-      let t : Told = answerAt s (take n d) o w in
-      let same : t ≡ toldOf s (take n d) = with-room s (take n d) (length o - w) (ltb-false (length o - w) replyRoom er) in
-      let long = reply-long t o w h in
-      let g = ih (t .after) d 0 (outAfter t o w) (w + length (replyLine t)) (omega arith) (omega arith) in
-      rw (er, eu) (record {
-        lines = take n d ∷ g .lines;
-        found = rw eu (ap (λ (x : List (List ℕ)). take n d ∷ x) (g .found));
-        part = rw (one-more _ i (g .from), eu) (ap (λ (x : List (List ℕ)). take n d ∷ x) (g .part));
-        bytes =
-            g .bytes ∙ ap (λ (x : List ℕ). x ++ repliesTo (t .after) (g .lines)) (reply-behind t o w h)
-            ∙ append-assoc (take w o) (replyLine t) (repliesTo (t .after) (g .lines))
-            ∙ ap (λ (x : Told). take w o ++ (replyLine x ++ repliesTo (x .after) (g .lines))) same;
-        regs = g .regs ∙ ap (λ (x : Told). registersAfter (x .after) (g .lines)) same;
-        space = g .space ∙ rw eu;
-        held = g .held ∙ rw eu;
-        from = omega (arith, g .from);
-        upto = omega (arith, g .upto);
-        room = g .room;
-        longer = omega (arith, g .longer);
-        fits = g .fits;
-      })
-  goes-by rest b i s d n o w false false true er eu ev e h k ih =
-      let g = ih s (set d n b) (n + 1) o w h (rw (length-set d n b) (omega (arith, ltb-true))) in
-      rw (er, eu, ev) (record {
-        lines = g .lines;
-        found = rw (eu, ev) (g .found);
-        part = rw (one-more _ i (g .from), eu, ev) (g .part);
-        bytes = g .bytes;
-        regs = g .regs;
-        space = g .space ∙ rw (eu, ev);
-        held = g .held ∙ rw (eu, ev);
-        from = omega (arith, g .from);
-        upto = omega (arith, g .upto);
-        room = g .room;
-        longer = g .longer;
-        fits = g .fits;
-      })
-  goes-by rest b i s d n o w false false false er eu ev e h k ih =
-      let g = ih s d n o w h k in
-      rw (er, eu, ev) (record {
-        lines = g .lines;
-        found = rw (eu, ev) (g .found);
-        part = rw (one-more _ i (g .from), eu, ev) (g .part);
-        bytes = g .bytes;
-        regs = g .regs;
-        space = g .space ∙ rw (eu, ev);
-        held = g .held ∙ rw (eu, ev);
-        from = omega (arith, g .from);
-        upto = omega (arith, g .upto);
-        room = g .room;
-        longer = g .longer;
-        fits = g .fits;
-      })
+module _ (s : Registers) (room : ℕ) (b : List ℕ) (long : ℕ) where
+  -- Serving the bytes `rest` from place i on came to t: it took a part of them, one byte or more where it did not stop at once.
+  record Goes (rest : List ℕ) (i : ℕ) (full : Bool) (c : SessionAt) (u : Gathered (List ℕ)) (t : Stand) : Type 0 where
+    onward : full ≡ false → 0 < length rest → i < t .next
+    from : i ≤ t .next
+    upto : t .next ≤ i + length rest
+    along : Along s room b long (t .next) t (feedBytes carrying (take (t .next - i) rest) c)
+        (feedBytes (gathering inFull) (take (t .next - i) rest) u)
 
-  goes : (rest : List ℕ) (i : ℕ) → drop i p ≡ rest
-      → (s : Registers) (d : List ℕ) (n : ℕ) (o : List ℕ) (w : ℕ) → w ≤ length o → n ≤ length d
-      → Goes p (servedFrom rest i s d n o w) rest i s d n o w
-  goes [] i e s d n o w h k =
+  goes-none : (rest : List ℕ) (i : ℕ) (t : Stand) (c : SessionAt) (u : Gathered (List ℕ)) (full : Bool) → (full ≡ false → length rest ≡ 0)
+      → Along s room b long i t c u → Goes rest i full c u t
+  goes-none rest i t c u full h a =
+      let n = a .next in
+      let z : t .next - i ≡ 0 = omega arith in
       record {
-        lines = [];
-        found = rw e;
-        part = let z : i - i ≡ 0 = omega arith in rw z;
-        bytes = sym (append-nil (take w o));
-        regs = refl;
-        space = rw e;
-        held = rw e;
+        onward = λ e k. absurd (omega (arith, h e));
         from = omega arith;
         upto = omega arith;
-        room = h;
-        longer = omega arith;
-        fits = k;
+        along = rw z (subst (λ (j : ℕ). Along s room b long j t c u) (sym n) a);
       }
-  goes (b ∷ rest) i e s d n o w h k =
-      let f : drop (i + 1) p ≡ rest = sym (drop-drop 1 i p) ∙ ap (λ (x : List ℕ). drop 1 x) e in
-      goes-by rest b i s d n o w (ltb (length o - w) replyRoom) (eqb b 0x0a) (ltb n (length d)) refl refl refl e h k (goes rest (i + 1) f)
 
--- with bytes left and room for a reply it takes a byte or more
-module _ (p : List ℕ) (s : Registers) (d : List ℕ) (n : ℕ) (o : List ℕ) (h : replyRoom ≤ length o) (k : n ≤ length d) where
-  onward-by : (rest : List ℕ) (b i : ℕ) (u v : Bool) → eqb b 0x0a ≡ u → ltb n (length d) ≡ v → drop (i + 1) p ≡ rest
-      → i < servedFrom (b ∷ rest) i s d n o 0 .next
-  onward-by rest b i true v eu ev e =
-      let t : Told = answerAt s (take n d) o 0 in
-      let long = reply-long t o 0 (omega arith) in
-      let g = goes p rest (i + 1) e (t .after) d 0 (outAfter t o 0) (0 + length (replyLine t)) (omega arith) (omega arith) in
-      rw (le-ltb (length o - 0) replyRoom (omega arith), eu) (omega (arith, g .from))
-  onward-by rest b i false true eu ev e =
-      let g = goes p rest (i + 1) e s (set d n b) (n + 1) o 0 (omega arith) (rw (length-set d n b) (omega (arith, ltb-true))) in
-      rw (le-ltb (length o - 0) replyRoom (omega arith), eu, ev) (omega (arith, g .from))
-  onward-by rest b i false false eu ev e =
-      let g = goes p rest (i + 1) e s d n o 0 (omega arith) k in
-      rw (le-ltb (length o - 0) replyRoom (omega arith), eu, ev) (omega (arith, g .from))
+  goes-by : (x : ℕ) (rest : List ℕ) (i : ℕ) (t : Stand) (c : SessionAt) (u : Gathered (List ℕ)) (full : Bool) → serving .stops t ≡ full
+      → Along s room b long i t c u
+      → Goes rest (i + 1) (serving .stops (feedByte serving t x)) (feedByte carrying c x) (feedByte (gathering inFull) u x)
+      (feedBytes serving rest (feedByte serving t x))
+      → Goes (x ∷ rest) i full c u (feedBytes serving (x ∷ rest) t)
+  goes-by x rest i t c u true e a g = rw e (goes-none (x ∷ rest) i t c u true (λ f. absurd (true≢false f)) a)
+  goes-by x rest i t c u false e a g =
+      let from = g .from in
+      let upto = g .upto in
+      let v : Stand = feedBytes serving rest (feedByte serving t x) in
+      let z : v .next - i ≡ suc (v .next - (i + 1)) = omega arith in
+      rw e (record { onward = λ _ _. omega arith; from = omega arith; upto = omega arith; along = rw z (g .along) })
 
-  onward-in : (rest : List ℕ) (i : ℕ) → drop i p ≡ rest → i < length p → i < servedFrom rest i s d n o 0 .next
-  onward-in [] i e l = let z = length-drop i p in let f = ap length e in absurd (omega arith)
-  onward-in (b ∷ rest) i e l =
-      onward-by rest b i (eqb b 0x0a) (ltb n (length d)) refl refl (sym (drop-drop 1 i p) ∙ ap (λ (x : List ℕ). drop 1 x) e)
+  module _ (big : longestLine < room) where
+    -- a byte x more, by whether it is 0A (v)
+    along-by : (x i : ℕ) (t : Stand) (c : SessionAt) (u : Gathered (List ℕ)) (v : Bool) → endsLine x ≡ v → Along s room b long i t c u
+        → Along s room b long (i + 1) (feedByte serving t x) (feedByte carrying c x) (feedByte (gathering inFull) u x)
+    along-by x i t c u true e a =
+        let g = a .stands in
+        let told : Told = toldOf (t .session .registers) (lineHeld (t .session .held)) in
+        let same : told ≡ toldOf (registersBehind s (u .lines)) (u .begun) =
+        rw (a .session, g .regs, g .held .front) (told-cut (registersBehind s (u .lines)) (u .begun) room big) in
+        let size = reply-long told (t .out) (t .filled) (a .within) in
+        rw e (record {
+          stands = record {
+            regs =
+                ap (λ (y : SessionAt). carrying .lineEnd y .registers) (sym (a .session)) ∙ ap (λ (y : Told). y .after) same
+                ∙ sym (registers-append s (u .lines) (u .begun ∷ []));
+            held = holds-none (g .held);
+            bytes =
+                ap (λ (y : List ℕ). b ++ y) (reply-behind told (t .out) (t .filled) (a .within))
+                ∙ sym (append-assoc b (take (t .filled) (t .out)) (replyLine told))
+                ∙ rw (g .bytes, same, replies-append s (u .lines) (u .begun ∷ []), append-nil);
+          };
+          session = ap (carrying .lineEnd) (a .session);
+          next = ap (λ (y : ℕ). y + 1) (a .next);
+          within = omega (arith, size);
+          longer = omega (arith, size, a .longer);
+        })
+    along-by x i t c u false e a =
+        let g = a .stands in
+        rw e (record {
+          stands = record { regs = g .regs; held = holds-more x (g .held); bytes = g .bytes };
+          session = ap (λ (y : SessionAt). carrying .lineByte y x) (a .session);
+          next = ap (λ (y : ℕ). y + 1) (a .next);
+          within = a .within;
+          longer = a .longer;
+        })
 
--- what is left to find tells the registers behind all that was to find, and the replies to it
-module _ {p : List ℕ} {t : Stand} {rest : List ℕ} {i : ℕ} {s : Registers} {d : List ℕ} {n : ℕ} {o : List ℕ} {w : ℕ}
-    (g : Goes p t rest i s d n o w) where
-  goes-regs : registersAfter (t .registers) (foundIn (drop (t .next) p) (t .line) (t .held)) ≡ registersAfter s (foundIn rest d n)
-  goes-regs = rw (g .found, registers-append s (g .lines), g .regs)
+    fed-goes : (rest : List ℕ) (i : ℕ) (t : Stand) (c : SessionAt) (u : Gathered (List ℕ)) → Along s room b long i t c u
+        → Goes rest i (serving .stops t) c u (feedBytes serving rest t)
+    fed-goes [] i t c u a = goes-none [] i t c u (serving .stops t) (λ _. refl) a
+    fed-goes (x ∷ rest) i t c u a =
+        goes-by x rest i t c u (serving .stops t) refl a
+        (fed-goes rest (i + 1) (feedByte serving t x) (feedByte carrying c x) (feedByte (gathering inFull) u x)
+        (along-by x i t c u (endsLine x) refl a))
 
-  goes-bytes : take (t .written) (t .out) ++ repliesTo (t .registers) (foundIn (drop (t .next) p) (t .line) (t .held))
-      ≡ take w o ++ repliesTo s (foundIn rest d n)
-  goes-bytes = rw (g .found, replies-append s (g .lines), g .bytes, g .regs, append-assoc)
+    call-goes : (p : List ℕ) (at : ℕ) (o : List ℕ) (c : SessionAt) (u : Gathered (List ℕ)) → long ≡ length o → Stands s room b c u
+        → Goes (drop at p) at (ltb (length o - 0) replyRoom) c u
+        (servedOf (c .registers) p at (c .held .space) (c .held .count) o)
+    call-goes p at o c u l g =
+        let m : min (c .held .count) (length (c .held .space)) ≡ c .held .count = omega (arith, holds-fits (g .held), g .held .size) in
+        fed-goes (drop at p) at _ c u
+        (record { stands = rw append-nil g; session = rw m; next = refl; within = omega arith; longer = omega arith })
 
--- Some lines lead from registers s to s′.
-pub record Leads (s s′ : Registers) : Type 0 where
-  pub lines : List (List ℕ)
-  pub regs : s′ ≡ registersAfter s lines
+-- A call of `serve` on the piece p, from place `at`, with n bytes held in the space d: it went on in the piece, and took a part of it.
+-- What is to be written stands in the output, and is the replies to the lines that end in the part; the registers and what is held
+-- are those of a session that took the part.
+pub record Call (s : Registers) (p : List ℕ) (at : ℕ) (d : List ℕ) (n : ℕ) (r : Served) (line out part : List ℕ) : Type 0 where
+  pub onward : at < r .next
+  pub upto : r .next ≤ length p
+  pub within : r .filled ≤ length out
+  pub bytes : take (r .filled) out ≡ repliesTo s (endedIn (take n d) part)
+  pub session : sessionWith (r .registers) line (r .held) ≡ feedBytes carrying part (sessionWith s d n)
+  pub fits : r .held ≤ length d
 
--- a call, with any count of held bytes
 module _ (s : Registers) (p : List ℕ) (at : ℕ) (d : List ℕ) (n : ℕ) (o : List ℕ) where
-  call-goes : Goes p (servedOf s p at d n o) (drop at p) at s d (min n (length d)) o 0
-  call-goes = goes p (drop at p) at refl s d (min n (length d)) o 0 (omega arith) (omega arith)
-
-  onward : at < length p → replyRoom ≤ length o → at < servedOf s p at d n o .next
-  onward h r = onward-in p s d (min n (length d)) o r (omega arith) (drop at p) at refl h
-
-  -- what the program's loop needs of it: it goes on in the piece, and what is to be written stands in the output
-  module _ (r : Served) (line out : List ℕ) (e : ServedAs (servedOf s p at d n o) r line out) where
-    pub served-onward : at < length p → replyRoom ≤ length o → at < r .next
-    served-onward h k =
-        let f : r .next ≡ servedOf s p at d n o .next = ap (λ (x : Served). x .next) (e .returned) in
-        omega (arith, onward h k)
-
-    pub served-upto : at ≤ length p → r .next ≤ length p
-    served-upto h =
-        let f : r .next ≡ servedOf s p at d n o .next = ap (λ (x : Served). x .next) (e .returned) in
-        omega (arith, call-goes .upto, length-drop at p)
-
-    pub served-within : r .written ≤ length out
-    served-within =
-        let f : r .written ≡ servedOf s p at d n o .written = ap (λ (x : Served). x .written) (e .returned) in
-        omega (arith, call-goes .room, ap length (e .out-left))
-
-    -- and it is the replies to the lines that end in the part of the piece that the call went through
-    pub served-part : n ≤ length d → 4244 < length d
-        → take (r .written) out ≡ repliesTo s (endedIn (take n d) (take (r .next - at) (drop at p)))
-    served-part h k =
-        let t : Stand = servedOf s p at d n o in
-        let m : min n (length d) ≡ n = omega arith in
-        let g = subst (λ (x : ℕ). Goes p t (drop at p) at s d x o 0) m call-goes in
-        let part = take (t .next - at) (drop at p) in
-        rw (e .returned, e .out-left)
-        (g .bytes ∙ ap (repliesTo s) (g .part ∙ found-ended part d n h) ∙ replies-cut s (endedIn (take n d) part) (length d) k)
-
-    pub served-leads : Leads s (r .registers)
-    served-leads = rw (e .returned) (record { lines = call-goes .lines; regs = call-goes .regs })
-
-    -- and what is left to find behind it is what was to find, without the lines that it answered
-    pub served-rest : n ≤ length d → Rest (drop at p) s d n (drop (r .next) p) (r .registers) line (r .held)
-    served-rest h =
-        let m : min n (length d) ≡ n = omega arith in
-        let g = subst (λ (x : ℕ). Goes p (servedOf s p at d n o) (drop at p) at s d x o 0) m call-goes in
-        rw (e .returned, e .line-left)
-        (record { regs = goes-regs g; space = g .space; held = g .held; fits = g .fits })
+  pub served : (r : Served) (line out : List ℕ) → n ≤ length d → longestLine < length d → at < length p → replyRoom ≤ length o
+      → ServedAs (servedOf s p at d n o) r line out → Call s p at d n r line out (take (r .next - at) (drop at p))
+  served r line out h big k room e =
+      let held : Holding = record { space = d; count = n } in
+      let g =
+      call-goes s (length d) [] (length o) big p at o (sessionWith s d n) (noLines (take n d)) refl
+      (record { regs = refl; held = holds-part held h; bytes = refl }) in
+      let a = g .along in
+      rw (e .returned, e .line-left, e .out-left) (record {
+        onward = g .onward (le-ltb (length o - 0) replyRoom (omega arith)) (simp length-drop (omega arith));
+        upto = omega (arith, g .upto, length-drop at p);
+        within = a .within;
+        bytes = a .stands .bytes;
+        session = a .session;
+        fits = rw (a .session) (holds-fits (a .stands .held));
+      })
 
 -- ── a call of `finish` ──
 
-last-length : (s : Registers) (l : List ℕ) (room : ℕ) → lastAnswer s l room .length ≡ length (lastReply s l room)
+last-length : (s : Registers) (l : List ℕ) (room : ℕ) → answerAtEnd s l room .length ≡ length (replyAtEnd s l room)
 last-length s [] room = refl
 last-length s (x ∷ l) room = refl
 
 -- what it writes is the reply to what is held, if anything is
-last-answered : (s : Registers) (l : List ℕ) (room : ℕ) → replyRoom ≤ room → lastReply s l room ≡ repliesTo s (lastOf l)
+last-answered : (s : Registers) (l : List ℕ) (room : ℕ) → replyRoom ≤ room → replyAtEnd s l room ≡ repliesTo s (lastLine l)
 last-answered s [] room r = refl
 last-answered s (x ∷ l) room r = ap replyLine (with-room s (x ∷ l) room r) ∙ sym (append-nil (replyLine (toldOf s (x ∷ l))))
 
 module _ (s : Registers) (l out : List ℕ) (a : Answered) (out′ : List ℕ) (e : FinishedAs s l out a out′) where
   abbrev reply : List ℕ
-  reply = lastReply s l (length out)
+  reply = replyAtEnd s l (length out)
 
   finish-length : a .length ≡ length reply
   finish-length = ap (λ (x : Answered). x .length) (e .returned) ∙ last-length s l (length out)
@@ -307,86 +218,75 @@ module _ (s : Registers) (l out : List ℕ) (a : Answered) (out′ : List ℕ) (
       let n : length out′ ≡ length reply + (length out - length reply) = ap length (e .left) ∙ simp (length-append, length-drop) in
       omega (arith, finish-length)
 
-  pub finish-bytes : replyRoom ≤ length out → take (a .length) out′ ≡ repliesTo s (lastOf l)
+  pub finish-bytes : replyRoom ≤ length out → take (a .length) out′ ≡ repliesTo s (lastLine l)
   finish-bytes r =
       rw (e .left) (take-at reply (drop (length reply) out) (a .length) (sym finish-length)) ∙ last-answered s l (length out) r
 
 -- ── a piece ──
 
-record Turns (t : Turned) (rest : List ℕ) (s : Registers) (d : List ℕ) (n : ℕ) : Type 0 where
-  bytes : t .wrote ≡ repliesTo s (foundIn rest d n)
-  regs : t .registers ≡ registersAfter s (foundIn rest d n)
-  space : t .line ≡ spaceLeft rest d n
-  held : t .held ≡ heldLeft rest d n
-  room : replyRoom ≤ length (t .out)
-  fits : t .held ≤ length (t .line)
+-- a part of a piece, and the rest behind it
+part-rest : (p : List ℕ) (at next : ℕ) → at ≤ next → take (next - at) (drop at p) ++ drop next p ≡ drop at p
+part-rest p at next h =
+    let e : at + (next - at) ≡ next = omega arith in
+    let f : drop next p ≡ drop (next - at) (drop at p) = ap (λ (k : ℕ). drop k p) (sym e) ∙ sym (drop-drop (next - at) at p) in
+    rw f (take-append-drop (next - at) (drop at p))
 
-turns-none : (rest : List ℕ) (s : Registers) (d : List ℕ) (n : ℕ) (o : List ℕ) → rest ≡ [] → n ≤ length d → replyRoom ≤ length o
-    → Turns (record { registers = s; line = d; held = n; out = o; wrote = [] }) rest s d n
-turns-none rest s d n o e h r =
-    record { bytes = rw e; regs = rw e; space = rw e; held = rw e; room = r; fits = h }
+-- The program from registers s stands at t, and u is its input as lines; there is room for a reply.
+abbrev Ran : (s : Registers) (room : ℕ) → Progress → Gathered (List ℕ) → Type 0
+Ran s room t u = Stands s room (t .wrote) (t .session) u × (replyRoom ≤ length (t .out))
 
-turns-by : (k : ℕ) (p : List ℕ) (at : ℕ) (s : Registers) (d : List ℕ) (n : ℕ) (o : List ℕ) (b : Bool) → ltb at (length p) ≡ b
-    → length p - at ≤ suc k → n ≤ length d → replyRoom ≤ length o
-    → ((i : ℕ) (s : Registers) (e : List ℕ) (m : ℕ) (q : List ℕ) → length p - i ≤ k → m ≤ length e → replyRoom ≤ length q
-    → Turns (pieceFrom k p i s e m q) (drop i p) s e m)
-    → Turns (pieceFrom (suc k) p at s d n o) (drop at p) s d n
-turns-by k p at s d n o false e l h r ih =
-    rw e (turns-none (drop at p) s d n o (drop-of-length-le p (ltb-false at (length p) e)) h r)
-turns-by k p at s d n o true e l h r ih =
-    let t : Stand = servedOf s p at d n o in
-    let m : min n (length d) ≡ n = omega arith in
-    let g = subst (λ (x : ℕ). Goes p t (drop at p) at s d x o 0) m (call-goes s p at d n o) in
-    let a = ltb-true at (length p) e in
-    let on = onward s p at d n o a r in
-    let u = ih (t .next) (t .registers) (t .line) (t .held) (t .out) (omega arith) (g .fits) (omega (arith, g .longer)) in
-    rw e (record {
-      bytes = ap (λ (x : List ℕ). take (t .written) (t .out) ++ x) (u .bytes) ∙ goes-bytes g;
-      regs = u .regs ∙ goes-regs g;
-      space = u .space ∙ g .space;
-      held = u .held ∙ g .held;
-      room = u .room;
-      fits = u .fits;
-    })
+module _ (s : Registers) (room : ℕ) (big : longestLine < room) where
+  abbrev lines-in : List ℕ → Gathered (List ℕ) → Gathered (List ℕ)
+  lines-in p u = feedBytes (gathering inFull) p u
 
-turns : (k : ℕ) (p : List ℕ) (at : ℕ) (s : Registers) (d : List ℕ) (n : ℕ) (o : List ℕ)
-    → length p - at ≤ k → n ≤ length d → replyRoom ≤ length o → Turns (pieceFrom k p at s d n o) (drop at p) s d n
-turns zero p at s d n o l h r = turns-none (drop at p) s d n o (drop-of-length-le p {i = at} (omega arith)) h r
-turns (suc k) p at s d n o l h r = turns-by k p at s d n o (ltb at (length p)) refl l h r (turns k p)
+  ran-by : (k : ℕ) (p : List ℕ) (at : ℕ) (t : Progress) (u : Gathered (List ℕ)) (v : Bool) → ltb at (length p) ≡ v
+      → length p - at ≤ suc k → Ran s room t u
+      → ((i : ℕ) (t : Progress) (u : Gathered (List ℕ)) → length p - i ≤ k → Ran s room t u
+      → Ran s room (pieceFrom k p i t) (lines-in (drop i p) u))
+      → Ran s room (pieceFrom (suc k) p at t) (lines-in (drop at p) u)
+  ran-by k p at t u false e l h ih = rw (e, drop-of-length-le p (ltb-false at (length p) e)) h
+  ran-by k p at t u true e l h ih =
+      let v : Stand = servedOf (t .session .registers) p at (t .session .held .space) (t .session .held .count) (t .out) in
+      let g = call-goes s room (t .wrote) (length (t .out)) big p at (t .out) (t .session) u refl (h .0) in
+      let some = ltb-true at (length p) e in
+      let on = g .onward (le-ltb (length (t .out) - 0) replyRoom (omega (arith, h .1))) (simp length-drop (omega arith)) in
+      let a = g .along in
+      let part = take (v .next - at) (drop at p) in
+      let stands = subst (λ (x : SessionAt). Stands s room (wroteOn t v .wrote) x (lines-in part u)) (sym (a .session)) (a .stands) in
+      let same : lines-in (drop (v .next) p) (lines-in part u) ≡ lines-in (drop at p) u =
+      sym (feed-append (gathering inFull) (λ _. refl) part (drop (v .next) p) u)
+      ∙ ap (λ (x : List ℕ). lines-in x u) (part-rest p at (v .next) (g .from)) in
+      rw e (subst (λ (x : Gathered (List ℕ)). Ran s room (pieceFrom k p (v .next) (wroteOn t v)) x) same
+      (ih (v .next) (wroteOn t v) (lines-in part u) (omega arith) (stands, omega (arith, h .1, a .longer))))
 
--- ── all pieces ──
+  ran : (k : ℕ) (p : List ℕ) (at : ℕ) (t : Progress) (u : Gathered (List ℕ)) → length p - at ≤ k → Ran s room t u
+      → Ran s room (pieceFrom k p at t) (lines-in (drop at p) u)
+  ran zero p at t u l h = rw (drop-of-length-le p {i = at} (omega arith)) h
+  ran (suc k) p at t u l h = ran-by k p at t u (ltb at (length p)) refl l h (ran k p)
 
--- what is held is a last line where it is not nothing
-last-by : (d : List ℕ) (n : ℕ) (l : List ℕ) (b : Bool) → ltb 0 n ≡ b → n ≤ length d → take n d ≡ l
-    → lastOf l ≡ pick b (l ∷ []) []
-last-by d n [] true e h f =
-    let z = length-take-le n d h in
-    let y : length (take n d) ≡ 0 = ap length f in
-    absurd (omega (arith, ltb-true))
-last-by d n (x ∷ l) true e h f = refl
-last-by d n [] false e h f = refl
-last-by d n (x ∷ l) false e h f =
-    let z = length-take-le n d h in
-    let y : length (take n d) ≡ suc (length l) = ap length f in
-    absurd (omega (arith, ltb-false))
+  -- ── all pieces ──
 
-all-found : (ps : List (List ℕ)) (s : Registers) (d : List ℕ) (n : ℕ) (o : List ℕ) → n ≤ length d → replyRoom ≤ length o
-    → writtenFor ps s d n o ≡ repliesTo s (foundInAll ps d n)
-all-found [] s d n o h r =
-    let reply = lastReply s (take n d) (length o) in
-    take-at reply (drop (length reply) o) (length reply) refl ∙ last-answered s (take n d) (length o) r
-    ∙ ap (repliesTo s) (last-by d n (take n d) (ltb 0 n) refl h refl)
-all-found (p ∷ ps) s d n o h r =
-    let t : Turned = pieceOf p s d n o in
-    let u : Turns t p s d n = turns (length p) p 0 s d n o (omega arith) h r in
-    let f = all-found ps (t .registers) (t .line) (t .held) (t .out) (u .fits) (u .room) in
-    rw f (rw (u .bytes, u .regs, u .space, u .held)
-    (sym (replies-append s (foundIn p d n) (foundInAll ps (spaceLeft p d n) (heldLeft p d n)))))
+  all-pieces : (ps : List (List ℕ)) (t : Progress) (u : Gathered (List ℕ)) → Ran s room t u
+      → wroteFor ps t ≡ repliesTo s (lines-in (flatten ps) u .lines ++ lastLine (lines-in (flatten ps) u .begun))
+  unfolding flatten
+  all-pieces [] t u h =
+      let g = h .0 in
+      let reply = replyAtEnd (t .session .registers) (lineHeld (t .session .held)) (length (t .out)) in
+      let last : take (length reply) (reply ++ drop (length reply) (t .out))
+      ≡ repliesTo (registersBehind s (u .lines)) (lastLine (u .begun)) =
+      take-at reply (drop (length reply) (t .out)) (length reply) refl
+      ∙ last-answered (t .session .registers) (lineHeld (t .session .held)) (length (t .out)) (h .1)
+      ∙ rw (g .regs, g .held .front) (last-cut (registersBehind s (u .lines)) (u .begun) room big) in
+      rw (last, g .bytes) (sym (replies-append s (u .lines) (lastLine (u .begun))))
+  all-pieces (p ∷ ps) t u h =
+      all-pieces ps (pieceOf p t) (lines-in p u) (ran (length p) p 0 t u (omega arith) h)
+      ∙ ap (λ (x : Gathered (List ℕ)). repliesTo s (x .lines ++ lastLine (x .begun)))
+      (sym (feed-append (gathering inFull) (λ _. refl) p (flatten ps) u))
 
 pub whole-input : WholeInput
 whole-input ps s d o h r =
-    all-found ps s d 0 o (omega arith) r ∙ ap (repliesTo s) (cut-anyhow ps d (omega arith))
-    ∙ replies-cut s (linesOf (flatten ps)) (length d) h
+    all-pieces s (length d) h ps _ (noLines [])
+    (record { regs = refl; held = holds-part (record { space = d; count = 0 }) (omega arith); bytes = refl }, r)
 
 -- ── one outcome ──
 

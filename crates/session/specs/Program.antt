@@ -7,61 +7,50 @@ use Prim.Native.Nat.{ℕ, zero, suc, _*_, _<_, _≤_}
 use lib.Dec.{ltb}
 use lib.ListN.{length, take, drop}
 use Rattle.seqs.specs.Choose.{pick}
-use Rattle.pieces.specs.Whole.{linesOf}
+use Rattle.pieces.specs.Cutting.{lineHeld}
+use Rattle.pieces.specs.Whole.{inputLines}
 use Rattle.paper.specs.declared.Registers.{Registers}
 use Rattle.paper.specs.Refusals.{longestFrame, replyRoom}
 use Rattle.module.specs.declared.Answered.{Answered}
 use Rattle.session.specs.declared.Served.{Served}
 use Rattle.session.specs.Replies.{repliesTo}
-use Rattle.session.specs.Serving.{Stand, servedOf, ServedAs, lastReply, FinishedAs}
+use Rattle.session.specs.Serving.{SessionAt, sessionWith, Stand, servedOf, ServedAs, replyAtEnd, FinishedAs}
 
--- Where the program stands behind a piece: the registers, the line's space and how much of it is held, the output; and the
--- bytes that it wrote for the piece.
-pub record Turned : Type 0 where
-  pub registers : Registers
-  pub line : List ℕ
-  pub held : ℕ
+-- Where the program stands: in its input, the output, and all that it wrote.
+pub record Progress : Type 0 where
+  pub session : SessionAt
   pub out : List ℕ
   pub wrote : List ℕ
 
--- a call of `serve` came to t, and its replies were written: then what the rest of the piece comes to
-abbrev pub further : Stand → Turned → Turned
-further t u =
-    record {
-      registers = u .registers;
-      line = u .line;
-      held = u .held;
-      out = u .out;
-      wrote = take (t .written) (t .out) ++ u .wrote;
-    }
+-- a call of `serve` came to u, and its replies were written
+abbrev pub wroteOn : Progress → Stand → Progress
+wroteOn t u = record { session = u .session; out = u .out; wrote = t .wrote ++ take (u .filled) (u .out) }
 
 -- A piece p from place `at` on: while there are bytes left, `serve` is called, the replies in the output are written,
 -- and it goes on from the place where the call stopped. There are at most k calls.
-abbrev pub pieceFrom : (k : ℕ) (p : List ℕ) (at : ℕ) → Registers → (line : List ℕ) (held : ℕ) (out : List ℕ) → Turned
-pieceFrom zero p at s d n o = record { registers = s; line = d; held = n; out = o; wrote = [] }
-pieceFrom (suc k) p at s d n o =
-    pick (ltb at (length p))
-    (further (servedOf s p at d n o)
-    (pieceFrom k p (servedOf s p at d n o .next) (servedOf s p at d n o .registers) (servedOf s p at d n o .line)
-    (servedOf s p at d n o .held) (servedOf s p at d n o .out)))
-    (record { registers = s; line = d; held = n; out = o; wrote = [] })
+abbrev pub pieceFrom : (k : ℕ) (p : List ℕ) (at : ℕ) → Progress → Progress
+pieceFrom zero p at t = t
+pieceFrom (suc k) p at t =
+    let u = servedOf (t .session .registers) p at (t .session .held .space) (t .session .held .count) (t .out) in
+    pick (ltb at (length p)) (pieceFrom k p (u .next) (wroteOn t u)) t
 
 -- a whole piece: each call takes a byte of it or more, so that it has no more calls than bytes
-abbrev pub pieceOf : (p : List ℕ) → Registers → (line : List ℕ) (held : ℕ) (out : List ℕ) → Turned
-pieceOf p s d n o = pieceFrom (length p) p 0 s d n o
+abbrev pub pieceOf : (p : List ℕ) → Progress → Progress
+pieceOf p t = pieceFrom (length p) p 0 t
 
 -- the end of the input: what `finish` leaves at the front of the output is written
-abbrev pub lastWritten : Registers → (line : List ℕ) (held : ℕ) (out : List ℕ) → List ℕ
-lastWritten s d n o =
-    let reply = lastReply s (take n d) (length o) in
-    take (length reply) (reply ++ drop (length reply) o)
+abbrev pub wroteAtEnd : Progress → List ℕ
+wroteAtEnd t =
+    let reply = replyAtEnd (t .session .registers) (lineHeld (t .session .held)) (length (t .out)) in
+    t .wrote ++ take (length reply) (reply ++ drop (length reply) (t .out))
 
--- all that is written for all pieces, from registers s
-abbrev pub writtenFor : List (List ℕ) → Registers → (line : List ℕ) (held : ℕ) (out : List ℕ) → List ℕ
-writtenFor [] s d n o = lastWritten s d n o
-writtenFor (p ∷ ps) s d n o =
-    pieceOf p s d n o .wrote
-    ++ writtenFor ps (pieceOf p s d n o .registers) (pieceOf p s d n o .line) (pieceOf p s d n o .held) (pieceOf p s d n o .out)
+-- all that is written for pieces; and for a whole input in pieces, from registers s
+abbrev pub wroteFor : List (List ℕ) → Progress → List ℕ
+wroteFor [] t = wroteAtEnd t
+wroteFor (p ∷ ps) t = wroteFor ps (pieceOf p t)
+
+abbrev pub writtenFor : List (List ℕ) → Registers → (line out : List ℕ) → List ℕ
+writtenFor ps s d o = wroteFor ps (record { session = sessionWith s d 0; out = o; wrote = [] })
 
 -- ── the statements ──
 
@@ -71,7 +60,7 @@ writtenFor (p ∷ ps) s d n o =
 abbrev pub WholeInput : Type 0
 WholeInput = (ps : List (List ℕ)) (s : Registers) (line out : List ℕ)
     → 2 * longestFrame < length line → replyRoom ≤ length out
-    → writtenFor ps s line 0 out ≡ repliesTo s (linesOf (flatten ps))
+    → writtenFor ps s line out ≡ repliesTo s (inputLines (flatten ps))
 
 -- "two outcomes allowed by the same statement are equal", for `serve` and for `finish`
 abbrev pub OneServing : Type 0

@@ -17,6 +17,6 @@ repliesTo s [] = []
 repliesTo s (l ∷ ls) = replyLine (toldOf s l) ++ repliesTo (toldOf s l .after) ls
 
 -- the registers behind the last line
-abbrev pub registersAfter : Registers → List (List ℕ) → Registers
-registersAfter s [] = s
-registersAfter s (l ∷ ls) = registersAfter (toldOf s l .after) ls
+abbrev pub registersBehind : Registers → List (List ℕ) → Registers
+registersBehind s [] = s
+registersBehind s (l ∷ ls) = registersBehind (toldOf s l .after) ls

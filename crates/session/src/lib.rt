@@ -18,7 +18,7 @@ pub struct Served {
     pub registers: Registers,
     pub next: usize,
     pub held: usize,
-    pub written: usize,
+    pub filled: usize,
 }
 
 // The registers of a module that nobody has opened yet.
@@ -64,22 +64,22 @@ pub fn serve(
     let mut registers = r;
     let mut next = at;
     let mut n = smaller(held, line.len());
-    let mut written: usize = 0;
+    let mut filled: usize = 0;
     while next < piece.len() {
-        if out.len() - written < REPLY_ROOM {
+        if out.len() - filled < REPLY_ROOM {
             return Served {
                 registers,
                 next,
                 held: n,
-                written,
+                filled,
             };
         }
         match pieces::next_line(piece, next, line, n) {
             Cut::Line(rest, len) => {
-                let a = reply_at(registers, &line[0..len], out, written);
+                let a = reply_at(registers, &line[0..len], out, filled);
                 let after = a.registers;
                 registers = after;
-                written += a.length;
+                filled += a.length;
                 next = rest;
                 n = 0;
             }
@@ -93,7 +93,7 @@ pub fn serve(
         registers,
         next,
         held: n,
-        written,
+        filled,
     }
 }
 

@@ -26,9 +26,32 @@ Inv-loop input₀ line₀ kept₀ out₀ registers₀ held₀ turns₀ input lin
 abbrev μ-loop : tie.MeasureT-loop
 μ-loop input₀ line₀ kept₀ out₀ registers₀ held₀ turns₀ input line kept out registers held turns = turns
 
--- where the turn started in which a piece is served
-abbrev turn : tie.After-serve-piece-arg4 Inv-loop μ-loop → tie.At-loop Inv-loop μ-loop
-turn c = c .before .before .before .before .before .before .before .before .before .before .before .before .before .before
+-- ── the states of a turn ──
+
+-- from the count of the bytes read to the call that read them, and to where the turn began
+abbrev sized : tie.After-count Inv-loop μ-loop → tie.After-slice-known5 Inv-loop μ-loop
+sized c = c .before .before .before
+
+abbrev reading : tie.After-count Inv-loop μ-loop → tie.After-read Inv-loop μ-loop
+reading c = sized c .before .before
+
+abbrev head : tie.After-count Inv-loop μ-loop → tie.At-loop Inv-loop μ-loop
+head c = reading c .before .before .before
+
+-- from the spaces lent to `serve_piece` to that count, and from what the call left to its arguments
+abbrev lent : tie.After-serve-piece-arg4 Inv-loop μ-loop → tie.After-serve-piece-arg Inv-loop μ-loop
+lent c = c .before .before .before
+
+abbrev counted : tie.After-serve-piece-arg4 Inv-loop μ-loop → tie.After-count Inv-loop μ-loop
+counted c = lent c .before .before .before
+
+abbrev outs : tie.After-struct-known Inv-loop μ-loop → tie.After-slice-known8 Inv-loop μ-loop
+outs c = c .before .before .before
+
+abbrev lines : tie.After-slice-known8 Inv-loop μ-loop → tie.After-line Inv-loop μ-loop
+lines c = c .before .before .before
+
+-- ── the needs ──
 
 loop-holds : tie.Need-loop-holds Inv-loop μ-loop
 loop-holds c =
@@ -36,19 +59,18 @@ loop-holds c =
 
 end-requires : tie.Need-end-requires Inv-loop μ-loop
 end-requires c κs =
-    let i = c .before .before .before .before .before .before .before .before .before .before .before .loop .inv in
+    let i = head (c .before .before .before) .loop .inv in
     ((i .0, i .1, i .3), i .8)
 
 serve-piece-requires : tie.Need-serve-piece-requires Inv-loop μ-loop
 serve-piece-requires c κs =
-    let i = turn c .loop .inv in
+    let i = head (counted c) .loop .inv in
     ((i .0, i .1, i .2, i .3), i .8)
 
 loop-again : tie.Need-loop-again Inv-loop μ-loop
 loop-again c =
-    let t = c .before .before .before .before .before .before .before .before .before in
-    let r = t .before .before .before .before .before .before .before .before .before .before .before .before .read in
-    let i = turn (t .before) .loop .inv in
+    let t = lines (outs (c .before .before)) .before in
+    let i = head (counted (t .before)) .loop .inv in
     let o = t .serve-piece in
     let line = o .kept .1 .1 .0 in
     let kept = o .kept .1 .1 .1 .1 .0 in
@@ -57,7 +79,7 @@ loop-again c =
       omega (arith, line, i .1),
       omega (arith, line, kept, i .2),
       omega (arith, out, i .3),
-      r .kept .1 .0 ∙ i .4,
+      reading (counted (t .before)) .read .kept .1 .0 ∙ i .4,
       line ∙ i .5,
       kept ∙ i .6,
       out ∙ i .7,

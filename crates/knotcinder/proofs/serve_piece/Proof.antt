@@ -1,15 +1,17 @@
--- Each turn serves the rest of the piece from where the last one stopped, and goes on in it; what is left to find behind it is
--- what was to find, without the lines that it answered; and what it writes is the replies to these.
+-- Each turn serves the rest of the piece from where the last one stopped, and goes on in it; the registers and the line's space are
+-- those of a session that took the piece so far; and what a turn writes is the replies to the lines that end in its part.
 use mathlib.Core.Path.{_≡_, refl, _∙_}
 use mathlib.Core.List.{List}
 use Prim.Native.Nat.{ℕ, _-_, _<_, _≤_}
 use native.Mathlib.Omega.{arith}
-use lib.ListN.{length, drop}
+use lib.ListN.{length, take, drop}
 use borrow.Author.Needs.{needs}
+use Rattle.pieces.specs.Feeding.{feedBytes}
 use Rattle.paper.specs.Refusals.{longestLine, replyRoom}
-use Rattle.session.proofs.Whole.{Rest, rest-start, rest-then, served-onward, served-upto, served-within, served-part, served-leads, served-rest}
+use Rattle.session.specs.Serving.{sessionWith, carrying}
+use Rattle.session.proofs.Whole.{Call, served}
 use Rattle.knotcinder.specs.Loop.{Reached}
-use Rattle.knotcinder.proofs.Laws.{through, stopped, standing-reached, reached-next, due-served}
+use Rattle.knotcinder.proofs.Laws.{came-next, through, stopped, standing-reached, reached-next, due-served}
 use Rattle.knotcinder.proofs.serve_piece.Statement.{statement}
 use Rattle.knotcinder.proofs.serve_piece.Tie as tie
 
@@ -21,113 +23,125 @@ Inv-loop piece line₀ held kept₀ out₀ registers₀ at₀ n₀ line kept out
     × (length line ≤ length kept)
     × (length out ≡ length out₀)
     × (replyRoom ≤ length out)
-    × Rest piece registers₀ line₀ held (drop at piece) registers line n
+    × (n ≤ length line)
+    × (sessionWith registers line n ≡ feedBytes carrying (take at piece) (sessionWith registers₀ line₀ held))
     × Reached registers
 
 abbrev μ-loop : tie.MeasureT-loop
 μ-loop piece line₀ held kept₀ out₀ registers₀ at₀ n₀ line kept out registers at n = length piece - at
 
-abbrev piece : tie.At-loop Inv-loop μ-loop → List ℕ
-piece l = l .before .before .before .before .before .args .piece .now
+-- ── the states of a turn ──
 
--- where a turn started, whose call of `serve` is behind it
-abbrev turn : tie.After-serve Inv-loop μ-loop → tie.At-loop Inv-loop μ-loop
-turn t = t .before .before .before .before .before .before .before .before .before .before
+abbrev known : tie.At-loop Inv-loop μ-loop → tie.After-slice-known Inv-loop μ-loop
+known l = l .before .before .before
 
--- the call went on in the piece, not past its end
-onward : (t : tie.After-serve Inv-loop μ-loop)
-    → (turn t .loop .at < t .serve .result .next) × (t .serve .result .next ≤ length (piece (turn t)))
-onward t =
-    let k = turn t .loop in
-    let b = t .before .before .before .before .before .before .before .before .before .loop-test .taken in
-    let s = t .serve in (
-      served-onward (k .registers) (piece (turn t)) (k .at) (k .line) (k .n) (k .out) (s .result) _ _ (s .ensures) b (k .inv .5),
-      served-upto (k .registers) (piece (turn t)) (k .at) (k .line) (k .n) (k .out) (s .result) _ _ (s .ensures) (omega (arith, b)),
-    )
+abbrev start : tie.At-loop Inv-loop μ-loop → tie.Start Inv-loop μ-loop
+start l = known l .before .before
+
+-- from what is said to the call of `serve`
+abbrev lent : tie.After-say-arg3 Inv-loop μ-loop → tie.After-say-arg Inv-loop μ-loop
+lent c = c .before .before .before
+
+abbrev behind : tie.After-slice-known6 Inv-loop μ-loop → tie.After-line2 Inv-loop μ-loop
+behind c = c .before .before .before
+
+abbrev asked : tie.After-say-arg Inv-loop μ-loop → tie.After-serve Inv-loop μ-loop
+asked c = behind (c .before .before) .before
+
+-- behind a call of `serve`: where what was held was kept before it, where the turn began, and what the call did
+module _ (t : tie.After-serve Inv-loop μ-loop) where
+  abbrev given : tie.After-slice-known4 Inv-loop μ-loop
+  given = t .before .before .before
+
+  abbrev keeping : tie.After-put Inv-loop μ-loop
+  keeping = given .before .before
+
+  abbrev entered : tie.After-put-arg Inv-loop μ-loop
+  entered = keeping .before .before .before
+
+  abbrev head : tie.At-loop Inv-loop μ-loop
+  head = entered .before .before
+
+  abbrev piece : List ℕ
+  piece = start head .args .piece .now
+
+  abbrev part : List ℕ
+  part = take (t .serve .result .next - head .loop .at) (drop (head .loop .at) piece)
+
+  calls : Call (head .loop .registers) piece (head .loop .at) (head .loop .line) (head .loop .n) (t .serve .result)
+      (t .serve .last .1 .1 .1 .0) (t .serve .last .1 .1 .1 .1 .1 .0) part
+  calls =
+      let k = head .loop in
+      served (k .registers) piece (k .at) (k .line) (k .n) (k .out) (t .serve .result) _ _ (k .inv .6) (k .inv .1)
+      (entered .before .loop-test .taken) (k .inv .5) (t .serve .ensures)
+
+-- ── the needs ──
 
 loop-holds : tie.Need-loop-holds Inv-loop μ-loop
 loop-holds c =
-    let a = c .before .before .before .before .args in (
-      refl,
-      omega arith,
-      refl,
-      omega arith,
-      refl,
-      omega arith,
-      rest-start (a .piece .now) (a .r) (a .line .now) (a .held) (omega arith),
-      standing-reached (c .before .before .before .before .pre .1),
-    )
+    let b = c .before .before .before .before in
+    (refl, omega arith, refl, omega arith, refl, omega arith, omega arith, refl, standing-reached (b .pre .1))
 
 part-say-end : tie.Need-part-say-end Inv-loop μ-loop
 part-say-end c =
-    let t = c .before .before .before .before .before in
-    let k = turn t .loop in
-    omega (arith, t .before .before .before .before .before .put .kept .0, k .inv .6 .fits, k .inv .3)
+    let t = behind (c .before) .before in
+    let k = head t .loop in
+    omega (arith, keeping t .put .kept .0, k .inv .6, k .inv .3)
 
 sub-say-2 : tie.Need-sub-say-2 Inv-loop μ-loop
-sub-say-2 c = let o = onward (c .before .before .before .before .before .before) in omega arith
+sub-say-2 c = let o = calls (asked c) in omega (arith, o .onward)
 
 part-say-start-2 : tie.Need-part-say-start-2 Inv-loop μ-loop
-part-say-start-2 c = let o = onward (c .before .before .before .before .before .before) in omega arith
+part-say-start-2 c = let o = calls (asked c) in omega (arith, o .onward)
 
 part-say-end-2 : tie.Need-part-say-end-2 Inv-loop μ-loop
-part-say-end-2 c = let o = onward (c .before .before .before .before .before .before) in omega arith
+part-say-end-2 c = let o = calls (asked c) in omega (arith, o .upto)
 
 part-say-end-3 : tie.Need-part-say-end-3 Inv-loop μ-loop
-part-say-end-3 c =
-    let t = c .before .before .before .before .before .before .before .before in
-    let k = turn t .loop in
-    let s = t .serve in
-    let w = served-within (k .registers) (piece (turn t)) (k .at) (k .line) (k .n) (k .out) (s .result) _ _ (s .ensures) in
-    omega arith
+part-say-end-3 c = let o = calls (asked (c .before .before)) in omega (arith, o .within)
 
 say-requires : tie.Need-say-requires Inv-loop μ-loop
 say-requires c κs =
-    let t = c .before .before .before .before .before .before .before .before .before in
-    let k = turn t .loop in
-    let s = t .serve in
-    let o = onward t in
-    due-served (k .inv .7) (piece (turn t)) (k .line) (k .kept) _ _ (k .at) (s .result .next) (k .n) (s .result .written)
-    (k .inv .6 .fits) (k .inv .3) (t .before .before .before .before .before .put .ensures) (o .0) (o .1)
-    (served-part (k .registers) (piece (turn t)) (k .at) (k .line) (k .n) (k .out) (s .result) _ _ (s .ensures)
-    (k .inv .6 .fits) (k .inv .1))
+    let t = asked (lent c) in
+    let k = head t .loop in
+    let o = calls t in
+    due-served (k .inv .8) (piece t) (k .line) (k .kept) _ _ (k .at) (t .serve .result .next) (k .n) (t .serve .result .filled)
+    (k .inv .6) (k .inv .3) (keeping t .put .ensures) (o .onward) (o .upto) (o .bytes)
 
 returns : tie.Need-returns Inv-loop μ-loop
 returns c =
-    let l = turn (c .before .before .before .before .before .before .before .before .before .before .before) in
+    let l = head (asked (lent (c .before .before))) in
     let k = l .loop in
-    stopped (piece l) _ (k .registers) _ _ _ (k .n) (omega (arith, k .inv .6 .fits, k .inv .0))
+    stopped (start l .args .piece .now) _ (k .registers) _ _ _ (k .n) (omega (arith, k .inv .6, k .inv .0))
 
 loop-less : tie.Need-loop-less Inv-loop μ-loop
-loop-less c =
-    let o = onward (c .before .before .before .before .before .before .before .before .before .before .before .before) in
-    omega arith
+loop-less c = let o = calls (asked (lent (c .before .before .before))) in omega (arith, o .onward, o .upto)
 
 loop-again : tie.Need-loop-again Inv-loop μ-loop
 loop-again c =
-    let t = c .before .before .before .before .before .before .before .before .before .before .before .before in
-    let k = turn t .loop in
-    let s = t .serve in
-    let r = served-rest (k .registers) (piece (turn t)) (k .at) (k .line) (k .n) (k .out) (s .result) _ _ (s .ensures) (k .inv .6 .fits) in
-    let a = served-leads (k .registers) (piece (turn t)) (k .at) (k .line) (k .n) (k .out) (s .result) _ _ (s .ensures) in
-    let line = s .kept .1 .1 .1 .0 in
-    let out = s .kept .1 .1 .1 .1 .1 .0 in
-    let kept = t .before .before .before .before .before .put .kept .0 in (
+    let t = asked (lent (c .before .before .before)) in
+    let k = head t .loop in
+    let o = calls t in
+    let line = t .serve .kept .1 .1 .1 .0 in
+    let out = t .serve .kept .1 .1 .1 .1 .1 .0 in
+    let kept = keeping t .put .kept .0 in (
       line ∙ k .inv .0,
       omega (arith, line, k .inv .1),
       kept ∙ k .inv .2,
       omega (arith, line, kept, k .inv .3),
       out ∙ k .inv .4,
       omega (arith, out, k .inv .5),
-      rest-then (k .inv .6) r,
-      reached-next (k .inv .7) a,
+      omega (arith, line, o .fits),
+      came-next (piece t) _ _ _ (k .at) (t .serve .result .next) (omega (arith, o .onward)) (k .inv .7) (o .session),
+      reached-next (part t) (sessionWith (k .registers) (k .line) (k .n)) _ (o .session) (k .inv .8),
     )
 
 returns-2 : tie.Need-returns-2 Inv-loop μ-loop
 returns-2 c =
     let l = c .before in
     let k = l .loop in
-    through (piece l) _ (k .registers) _ (k .line) _ (k .n) (k .at) (k .inv .6) (k .inv .0) (c .loop-test .left)
+    through (start l .args .piece .now) _ (k .registers) _ (k .line) _ (k .n) (k .at) (k .inv .7) (omega (arith, k .inv .6, k .inv .0))
+    (c .loop-test .left)
 
 pub serve-piece-spec : {M : Type 1} → statement M
 serve-piece-spec =

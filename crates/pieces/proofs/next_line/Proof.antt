@@ -1,14 +1,15 @@
--- At each turn the whole answer is the one that the rest of the piece gives from the bytes held now.
-use mathlib.Core.Path.{_≡_, refl, sym, _∙_}
-use mathlib.Core.Bool.{true, false}
+-- At each turn the whole search is the one in the rest of the piece, from the bytes held now.
+use mathlib.Core.Path.{_≡_, refl, sym, ap, _∙_}
+use mathlib.Core.Bool.{false}
 use mathlib.Core.Logic.{⊎-elim}
-use Prim.Native.Nat.{suc, _-_, _≤_}
+use mathlib.Core.List.{List}
+use Prim.Native.Nat.{ℕ, _+_, _-_, _<_}
 use native.Mathlib.Omega.{arith}
 use borrow.Author.Tests.{eq-eqb, ne-eqb, lt-ltb, le-ltb}
-use lib.Dec.{eqb, ltb}
 use lib.ListN.{length, drop, getD, length-set}
-use Rattle.pieces.specs.Cutting.{cutOf, spaceOf}
-use Rattle.pieces.proofs.Laws.{cut-step, space-step, cut-end, space-end}
+use Rattle.pieces.specs.Feeding.{feedByte, feedBytes}
+use Rattle.pieces.specs.Cutting.{Sought, seeking, soughtIn, cutOf}
+use Rattle.pieces.proofs.Laws.{at-place, stays, feed-next, feed-end}
 use borrow.Author.Needs.{needs}
 use Rattle.pieces.proofs.next_line.Statement.{statement}
 use Rattle.pieces.proofs.next_line.Tie as tie
@@ -16,60 +17,53 @@ use Rattle.pieces.proofs.next_line.Tie as tie
 abbrev Inv-loop : tie.InvT-loop
 Inv-loop piece at line₀ held i₀ n₀ line i n =
     (length line ≡ length line₀)
-    × (cutOf (drop at piece) at (length line₀) held ≡ cutOf (drop i piece) i (length line₀) n)
-    × (spaceOf (drop at piece) line₀ held ≡ spaceOf (drop i piece) line n)
+    × (soughtIn piece at line₀ held ≡ feedBytes seeking (drop i piece) (at-place i line n false))
 
 abbrev μ-loop : tie.MeasureT-loop
 μ-loop piece at line₀ held i₀ n₀ line i n = length piece - i
 
+-- at the head of the loop: the piece, where the search stands, and one byte more
+module _ (l : tie.At-loop Inv-loop μ-loop) where
+  abbrev piece : List ℕ
+  piece = l .before .args .piece .now
+
+  abbrev here : Sought
+  here = at-place (l .loop .i) (l .loop .line) (l .loop .n) false
+
+  next : l .loop .i < length piece
+      → soughtIn piece (l .before .args .at) (l .before .args .line .now) (l .before .args .held)
+      ≡ feedBytes seeking (drop (l .loop .i + 1) piece) (feedByte seeking here (getD piece (l .loop .i) 0))
+  next h = l .loop .inv .1 ∙ feed-next seeking piece (l .loop .i) here h refl
+
 loop-holds : tie.Need-loop-holds Inv-loop μ-loop
-loop-holds c = (refl, refl, refl)
+loop-holds c = (refl, refl)
+
+-- the search came to t
+told : (s t : Sought) → s ≡ t → (cutOf t ≡ cutOf s) × (t .held .space ≡ s .held .space)
+told s t e = (ap cutOf (sym e), ap (λ (x : Sought). x .held .space) (sym e))
 
 returns : tie.Need-returns Inv-loop μ-loop
 returns c =
-    let a = c .before .before .before .before .args in
-    let p = a .piece .now in
-    let k = c .before .before .before .loop in
-    let h : suc (k .i) ≤ length p = omega arith in
-    let q : eqb (getD p (k .i) 0) 0x0a ≡ true = eq-eqb _ _ (c .if1 .taken) in (
-      sym (k .inv .1 ∙ cut-step p (k .i) (k .n) h (length (a .line .now)) ∙ rw q),
-      sym (k .inv .2 ∙ space-step p (k .i) (k .n) h (k .line) ∙ rw q),
-    )
+    let l = c .before .before .before in
+    told _ (seeking .lineEnd (here l))
+    (next l (omega arith) ∙ rw (eq-eqb _ _ (c .if1 .taken)) (stays seeking (drop (l .loop .i + 1) (piece l)) _ refl))
 
 loop-again : tie.Need-loop-again Inv-loop μ-loop
 loop-again c =
-    let a = c .before .before .before .before .before .args in
-    let p = a .piece .now in
-    let room = length (a .line .now) in
-    let k = c .before .before .before .before .loop in
-    let h : suc (k .i) ≤ length p = omega arith in
-    let q : eqb (getD p (k .i) 0) 0x0a ≡ false = ne-eqb _ _ (c .before .if1 .left) in
-    let e = k .inv .0 in
+    let b = c .before in
+    let l = b .before .before .before in
+    let e = l .loop .inv .0 in
+    let q = ne-eqb _ _ (b .if1 .left) in
+    let f = next l (omega arith) in
     ⊎-elim
-    (λ w.
-    let t : ltb (k .n) (length (k .line)) ≡ true = lt-ltb _ _ (w .0 .taken) in
-    rw (w .1, w .2) (
-      simp length-set e,
-      k .inv .1 ∙ cut-step p (k .i) (k .n) h room ∙ rw (q, ← e, t),
-      k .inv .2 ∙ space-step p (k .i) (k .n) h (k .line) ∙ rw (q, t),
-    ))
-    (λ w.
-    let t : ltb (k .n) (length (k .line)) ≡ false = le-ltb _ _ (w .0 .left) in
-    rw (w .1, w .2) (
-      e,
-      k .inv .1 ∙ cut-step p (k .i) (k .n) h room ∙ rw (q, ← e, t),
-      k .inv .2 ∙ space-step p (k .i) (k .n) h (k .line) ∙ rw (q, t),
-    ))
+    (λ w. rw (w .1, w .2) (simp length-set e, f ∙ rw (q, lt-ltb _ _ (w .0 .taken))))
+    (λ w. rw (w .1, w .2) (e, f ∙ rw (q, le-ltb _ _ (w .0 .left))))
     (c .if2 .came)
 
 returns-2 : tie.Need-returns-2 Inv-loop μ-loop
 returns-2 c =
-    let a = c .before .before .args in
-    let p = a .piece .now in
-    let k = c .before .loop in (
-      sym (k .inv .1 ∙ cut-end p (k .i) (k .n) (c .loop-test .left) (length (a .line .now))),
-      sym (k .inv .2 ∙ space-end p (k .i) (k .n) (c .loop-test .left) (k .line)),
-    )
+    let l = c .before in
+    told _ (here l) (l .loop .inv .1 ∙ feed-end seeking (piece l) (l .loop .i) (here l) (c .loop-test .left))
 
 pub next-line-spec : {M : Type 1} → statement M
 next-line-spec =

@@ -1,44 +1,93 @@
 -- Each turn cuts a line and answers it behind the replies so far, or uses the piece up; what the whole call comes to is
 -- what serving the rest comes to from where the turn left it.
 use mathlib.Core.Path.{_≡_, refl, _∙_}
+use mathlib.Core.Bool.{true, false}
 use mathlib.Core.List.{List}
-use Prim.Native.Nat.{ℕ, _-_, _≤_}
+use Prim.Native.Nat.{ℕ, _+_, _-_, _<_, _≤_}
 use native.Mathlib.Omega.{arith}
 use borrow.Author.Tests.{lt-ltb}
 use lib.ListN.{length, drop}
-use Rattle.pieces.specs.declared.Cut.{Cut}
-use Rattle.pieces.specs.Cutting.{Within}
-use Rattle.pieces.proofs.Laws.{found}
-use Rattle.session.specs.Serving.{servedFrom, servedOf}
-use Rattle.session.proofs.Laws.{reply-fits, no-room, used-up, told, turn-line, turn-more}
+use Rattle.pieces.specs.declared.Cut.the-variants.{Line, More}
+use Rattle.pieces.specs.Feeding.{feedBytes}
+use Rattle.pieces.specs.Cutting.{Sought, soughtIn}
+use Rattle.pieces.proofs.Laws.{at-place, stays, feed-end, line-found, more-found}
+use Rattle.session.specs.Serving.{serving, servedOf}
+use Rattle.session.proofs.Laws.{reply-fits, standing-at, told, turn-line, turn-more}
 use borrow.Author.Needs.{needs}
 use Rattle.session.proofs.serve.Statement.{statement}
 use Rattle.session.proofs.serve.Tie as tie
 
 abbrev Inv-loop : tie.InvT-loop
-Inv-loop piece at line₀ held out₀ registers₀ next₀ n₀ written₀ line out registers next n written =
+Inv-loop piece at line₀ held out₀ registers₀ next₀ n₀ filled₀ line out registers next n filled =
     (n ≤ length line)
     × (length line ≡ length line₀)
-    × (written ≤ length out)
+    × (filled ≤ length out)
     × (length out ≡ length out₀)
-    × (servedOf registers₀ piece at line₀ held out₀ ≡ servedFrom (drop next piece) next registers line n out written)
+    × (servedOf registers₀ piece at line₀ held out₀ ≡ feedBytes serving (drop next piece) (standing-at registers next line n out filled))
 
 abbrev μ-loop : tie.MeasureT-loop
-μ-loop piece at line₀ held out₀ registers₀ next₀ n₀ written₀ line out registers next n written = length piece - next
+μ-loop piece at line₀ held out₀ registers₀ next₀ n₀ filled₀ line out registers next n filled = length piece - next
 
--- a turn's start, and its piece
-abbrev turn : tie.After-next-line Inv-loop μ-loop → tie.At-loop Inv-loop μ-loop
-turn c = c .before .before .before .before
+-- ── the states of a turn ──
 
-abbrev piece : tie.At-loop Inv-loop μ-loop → List ℕ
-piece l = l .before .before .before .before .before .args .piece .now
+-- from the head of the loop to the start
+abbrev known : tie.At-loop Inv-loop μ-loop → tie.After-slice-known Inv-loop μ-loop
+known l = l .before .before .before
 
--- what was cut lies within the piece and the space
-cut : (c : tie.After-next-line Inv-loop μ-loop) (s : Cut) → c .next-line .result ≡ s
-    → Within s (turn c .loop .next) (length (piece (turn c))) (length (turn c .loop .line))
-cut c s e =
-    let k = turn c .loop in
-    found (piece (turn c)) (k .next) (k .n) (length (k .line)) _ s (c .next-line .ensures .0) e (omega arith) (k .inv .0)
+abbrev start : tie.At-loop Inv-loop μ-loop → tie.Start Inv-loop μ-loop
+start l = known l .before .before
+
+-- behind a call of `next_line`: where the turn began, and what the call tells
+module _ (c : tie.After-next-line Inv-loop μ-loop) where
+  abbrev turn : tie.In-loop Inv-loop μ-loop
+  turn = c .before .before .before
+
+  abbrev head : tie.At-loop Inv-loop μ-loop
+  head = turn .before
+
+  abbrev piece : List ℕ
+  piece = start head .args .piece .now
+
+  abbrev Came : Sought → Type 0
+  Came u = soughtIn piece (head .loop .next) (head .loop .line) (head .loop .n) ≡ u
+
+  line-cut : (next m : ℕ) → c .next-line .result ≡ Line next m
+      → Came (at-place next (c .next-line .last .1 .1 .0) m true)
+      × (head .loop .next < next) × (next ≤ length piece) × (m ≤ length (head .loop .line))
+  line-cut next m e =
+      line-found piece (head .loop .line) _ (head .loop .next) (head .loop .n) (c .next-line .result)
+      (c .next-line .ensures .0) (c .next-line .ensures .1) (omega arith) (head .loop .inv .0) next m e
+
+  more-cut : (m : ℕ) → c .next-line .result ≡ More m
+      → Came (at-place (length piece) (c .next-line .last .1 .1 .0) m false) × (m ≤ length (head .loop .line))
+  more-cut m e =
+      more-found piece (head .loop .line) _ (head .loop .next) (head .loop .n) (c .next-line .result)
+      (c .next-line .ensures .0) (c .next-line .ensures .1) (omega arith) (head .loop .inv .0) m e
+
+abbrev asked : tie.After-slice-known3 Inv-loop μ-loop → tie.After-next-line Inv-loop μ-loop
+asked c = c .before .before
+
+-- behind a reply: the line that it is for, the call that gave that line, and that the reply fits the output
+module _ (r : tie.After-reply-at Inv-loop μ-loop) where
+  abbrev line : tie.After-line2 Inv-loop μ-loop
+  line = r .before .before .before
+
+  abbrev cut : tie.After-rest Inv-loop μ-loop
+  cut = line .before .before
+
+  abbrev call : tie.After-next-line Inv-loop μ-loop
+  call = asked (cut .before .before)
+
+  fits : head call .loop .filled + r .reply-at .result .length ≤ length (head call .loop .out)
+  fits =
+      let k = head call .loop in
+      let t = r .reply-at in
+      reply-fits (k .registers) _ (k .out) (k .filled) (t .result) _ (t .ensures) (k .inv .2) (t .kept .1 .1 .0)
+
+abbrev replied : tie.After-slice-known4 Inv-loop μ-loop → tie.After-reply-at Inv-loop μ-loop
+replied c = c .before .before
+
+-- ── the needs ──
 
 loop-holds : tie.Need-loop-holds Inv-loop μ-loop
 loop-holds c =
@@ -48,68 +97,58 @@ loop-holds c =
 returns : tie.Need-returns Inv-loop μ-loop
 returns c =
     let l = c .before .before in
-    let k = l .loop in
-    let full = lt-ltb _ _ (c .if1 .taken) in
     told _ _ _ _ _ _ _
-    (k .inv .4 ∙ no-room (drop (k .next) (piece l)) (k .next) (k .registers) (k .line) (k .n) (k .out) (k .written) full)
+    (l .loop .inv .4 ∙ stays serving (drop (l .loop .next) (start l .args .piece .now)) _ (lt-ltb _ _ (c .if1 .taken)))
 
 part-reply-at-end : tie.Need-part-reply-at-end Inv-loop μ-loop
 part-reply-at-end c =
     let m = c .before .before in
-    let t = m .before .before .before .before in
-    let w = cut t _ (m .rest .given .1) in
+    let t = asked (m .before .before) in
+    let w = line-cut t _ _ (m .rest .given .1) in
     omega (arith, t .next-line .kept .1 .1 .0)
 
-add-written : tie.Need-add-written Inv-loop μ-loop
-add-written c =
-    let t = c .before .before .before .before .reply-at in
-    let l = turn (c .before .before .before .before .before .before .before .before .before .before .before .before .before) in
-    let k = l .loop in
-    let o = k .inv .3 in
-    let f = reply-fits (k .registers) _ (k .out) (k .written) (t .result) _ (t .ensures) (k .inv .2) (t .kept .1 .1 .0) in
-    record { fits = omega (arith, l .before .before .before .before .before .good .1 .1 .1 .1 .1 .0) }
+add-filled : tie.Need-add-filled Inv-loop μ-loop
+add-filled c =
+    let r = replied (c .before .before) in
+    let l = head (call r) in
+    let o = l .loop .inv .3 in
+    let f = fits r in
+    record { fits = omega (arith, start l .good .1 .1 .1 .1 .1 .0) }
 
 loop-less : tie.Need-loop-less Inv-loop μ-loop
 loop-less c =
-    let m = c .before .before .before .before .before .before .before .before .before in
-    let b = m .before .before .before .before .before .before .before .loop-test .taken in
-    let w = cut (m .before .before .before .before) _ (m .rest .given .1) in
-    omega (arith, b)
+    let r = replied (c .before .before) in
+    let w = line-cut (call r) _ _ (cut r .rest .given .1) in
+    omega (arith, turn (call r) .loop-test .taken)
 
 loop-again : tie.Need-loop-again Inv-loop μ-loop
 loop-again c =
-    let r = c .before .before .before .before .reply-at in
-    let m = c .before .before .before .before .before .before .before .before .before in
-    let t = m .before .before .before .before in
-    let k = turn t .loop in
-    let found = t .next-line .ensures in
-    let f = reply-fits (k .registers) _ (k .out) (k .written) (r .result) _ (r .ensures) (k .inv .2) (r .kept .1 .1 .0) in
+    let r = replied (c .before .before) in
+    let t = call r in
+    let k = head t .loop in
+    let f = fits r in
     let e =
-    turn-line _ (piece (turn t)) (k .line) (k .out) _ (k .registers) (k .next) (k .n) (k .written) _ (k .inv .4)
-    (t .before .before .if1 .left) (found .0) (found .1) _ _ (r .result) _ (m .rest .given .1) (r .ensures) in
+    turn-line _ (piece t) (k .line) (k .out) (k .registers) (k .next) (k .n) (k .filled) (k .inv .4)
+    (t .before .before .if1 .left) _ _ _ (r .reply-at .result) _ (line-cut t _ _ (cut r .rest .given .1) .0) (r .reply-at .ensures) in
     let line = t .next-line .kept .1 .1 .0 in
-    let out = r .kept .1 .1 .0 in
+    let out = r .reply-at .kept .1 .1 .0 in
     (omega arith, line ∙ k .inv .1, omega arith, out ∙ k .inv .3, e)
 
 loop-again-2 : tie.Need-loop-again-2 Inv-loop μ-loop
 loop-again-2 c =
-    let m = c .before in
-    let t = m .before .before .before .before in
-    let k = turn t .loop in
-    let found = t .next-line .ensures in
-    let w = cut t _ (m .len .given .1) in
+    let t = asked (c .before .before .before) in
+    let k = head t .loop in
+    let w = more-cut t _ (c .before .len .given .1) in
     let e =
-    turn-more _ (piece (turn t)) (k .line) (k .out) _ (k .registers) (k .next) (k .n) (k .written) _ (k .inv .4)
-    (t .before .before .if1 .left) (found .0) (found .1) _ (omega arith) (m .len .given .1) in
+    turn-more _ (piece t) (k .line) (k .out) (k .registers) (k .next) (k .n) (k .filled) (k .inv .4)
+    (t .before .before .if1 .left) _ _ (w .0) in
     let line = t .next-line .kept .1 .1 .0 in
     (omega arith, line ∙ k .inv .1, k .inv .2, k .inv .3, e)
 
 returns-2 : tie.Need-returns-2 Inv-loop μ-loop
 returns-2 c =
     let l = c .before in
-    let k = l .loop in
-    told _ _ _ _ _ _ _
-    (k .inv .4 ∙ used-up (piece l) (k .next) (k .registers) (k .line) (k .n) (k .out) (k .written) (c .loop-test .left))
+    told _ _ _ _ _ _ _ (l .loop .inv .4 ∙ feed-end serving (start l .args .piece .now) (l .loop .next) _ (c .loop-test .left))
 
 pub serve-spec : {M : Type 1} → statement M
 serve-spec =
@@ -129,7 +168,7 @@ serve-spec =
     (λ c. search needs)
     part-reply-at-end
     (λ c κs. search needs)
-    add-written
+    add-filled
     loop-less
     loop-again
     (λ c. search needs)
