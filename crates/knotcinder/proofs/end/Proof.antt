@@ -10,15 +10,15 @@ use borrow.Author.Needs.{needs}
 use Rattle.knotcinder.proofs.end.Statement.{statement}
 use Rattle.knotcinder.proofs.end.Tie as tie
 
--- from the reply's part of the output to the call of `finish`, and to the start
-abbrev left : tie.Then1 → tie.After-finish
-left c = c .before .before .before
+-- from the reply's part of the output to the test that something is held, to the call of `finish`, and to its arguments
+abbrev tested : tie.After-out2 → tie.Then1
+tested c = c .before .before .before
 
 abbrev finished : tie.After-out2 → tie.After-finish
-finished c = left (c .before .before .before)
+finished c = tested c .before .before .before
 
-abbrev start : tie.After-finish → tie.After-shared-slice-known
-start c = c .before .before .before
+abbrev known : tie.After-finish → tie.After-shared-slice-known
+known c = c .before .before .before
 
 part-say-end-2 : tie.Need-part-say-end-2
 part-say-end-2 c = omega (arith, finish-within _ _ _ _ _ (finished c .finish .ensures))
@@ -26,11 +26,11 @@ part-say-end-2 c = omega (arith, finish-within _ _ _ _ _ (finished c .finish .en
 say-requires : tie.Need-say-requires
 say-requires c κs =
     let t = finished (c .before) in
-    let b = start t .before in
+    let b = known t .before in
     let a = b .args in
     let held = take (a .held) (a .line .now) in
     let z : a .held - 0 ≡ a .held = omega arith in
-    let h = c .before .before .before .before .if1 .taken in
+    let h = tested (c .before) .if1 .taken in
     let some : 0 < length held = omega (arith, length-take-le (a .held) (a .line .now) (b .pre .0 .0), h) in
     rw z (due-last (standing-reached (b .pre .1)) held _ (t .finish .result .length) some
     (finish-bytes (a .r) held (a .out .now) (t .finish .result) _ (t .finish .ensures) (b .pre .0 .2)))

@@ -79,7 +79,8 @@ module _ (t : tie.After-serve Inv-loop μ-loop) where
 
 loop-holds : tie.Need-loop-holds Inv-loop μ-loop
 loop-holds c =
-    let b = c .before .before .before .before in
+    let k = c .before .before in
+    let b = k .before .before in
     (refl, omega arith, refl, omega arith, refl, omega arith, omega arith, refl, standing-reached (b .pre .1))
 
 part-say-end : tie.Need-part-say-end Inv-loop μ-loop

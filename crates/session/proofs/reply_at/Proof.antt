@@ -6,8 +6,10 @@ use Rattle.session.proofs.reply_at.Tie as tie
 
 returns : tie.Need-returns
 returns c =
-    let a = c .before .before .before .before .before .before .args in
-    replied (a .r) (a .line .now) (a .out .now) (a .at) _ _ (c .before .before .answer .ensures)
+    let t = c .before .before in
+    let lent = t .before .before in
+    let a = lent .before .before .args in
+    replied (a .r) (a .line .now) (a .out .now) (a .at) _ _ (t .answer .ensures)
 
 pub reply-at-spec : {M : Type 1} → statement M
 reply-at-spec =
