@@ -1,6 +1,6 @@
 -- What is fed to a taker at a place of a piece; what one search for a line tells of any taker of the same bytes; and that what is
 -- found lies within the piece and the space.
-use mathlib.Core.Path.{_≡_, refl, sym, ap, _∙_}
+use mathlib.Core.Path.{_≡_, refl, sym, ap, subst, _∙_}
 use mathlib.Core.Bool.{Bool, true, false, true≢false}
 use mathlib.Core.List.{List, [], _∷_, _++_}
 use Prim.Native.Nat.{ℕ, suc, _+_, _<_, _≤_}
@@ -10,6 +10,7 @@ use borrow.Author.Tests.{ltb-true}
 use lib.Dec.{ltb}
 use lib.ListN.{length, getD, drop, length-set, drop-of-length-le, length-drop}
 use lib.Seq.{drop-cons, drop-drop}
+use Rattle.seqs.specs.Choose.{pick}
 use Rattle.pieces.specs.declared.Cut.{Cut}
 use Rattle.pieces.specs.declared.Cut.the-variants.{Line, More}
 use Rattle.pieces.specs.Feeding.{Taker, endsLine, feedByte, feedBytes}
@@ -115,42 +116,26 @@ search-lies (b ∷ s) room i h f = lies-by s b room i h (endsLine b) refl f (λ 
 
 -- ── what a call of `next_line` tells ──
 
--- a search that is told as a line, and one that is told as more
-cut-line : (w : Bool) (i : ℕ) (d : List ℕ) (n next m : ℕ) → cutOf (at-place i d n w) ≡ Line next m
-    → at-place i d n w ≡ at-place next d m true
-cut-line true i d n next m e =
-    let a : i ≡ next = cc in
-    let b : n ≡ m = cc in
-    rw (a, b)
-cut-line false i d n next m e = let z : _≡_ {A = ℕ} 0 1 = cc in absurd (omega arith)
+-- The call at place `at` of the piece p, with n bytes held in the space d, left d′ there: by what it returned, where its search ended.
+abbrev pub Tells : (p d d′ : List ℕ) (at n : ℕ) → Cut → Type 0
+Tells p d d′ at n (Line next m) = (soughtIn p at d n ≡ at-place next d′ m true) × (at < next) × (next ≤ length p) × (m ≤ length d)
+Tells p d d′ at n (More m) = (soughtIn p at d n ≡ at-place (length p) d′ m false) × (m ≤ length d)
 
-cut-more : (w : Bool) (i : ℕ) (d : List ℕ) (n m : ℕ) → cutOf (at-place i d n w) ≡ More m
-    → at-place i d n w ≡ at-place i d m false
-cut-more true i d n m e = let z : _≡_ {A = ℕ} 0 1 = cc in absurd (omega arith)
-cut-more false i d n m e = let b : n ≡ m = cc in rw b
-
--- The call at place `at` of the piece p, with n bytes held in the space d, returned r and left d′ there.
-module _ (p d d′ : List ℕ) (at n : ℕ) (r : Cut) (told : r ≡ cutOf (soughtIn p at d n)) (left : d′ ≡ soughtIn p at d n .held .space)
-    (h : at ≤ length p) (k : n ≤ length d) where
+module _ (p d d′ : List ℕ) (at n : ℕ) (left : d′ ≡ soughtIn p at d n .held .space) (h : at ≤ length p) (k : n ≤ length d) where
   abbrev came : Sought
   came = soughtIn p at d n
 
-  lies-in : (v : Sought) → came ≡ v → Lies (length d) at (length p) v
-  lies-in v e =
+  came-lies : Lies (length d) at (length p) came
+  came-lies =
       let end : at + length (drop at p) ≡ length p = simp length-drop (omega arith) in
-      rw (← e, ← end) (search-lies (drop at p) (length d) at (record { space = d; count = n }) (refl, k))
+      rw (← end) (search-lies (drop at p) (length d) at (record { space = d; count = n }) (refl, k))
 
-  pub line-found : (next m : ℕ) → r ≡ Line next m
-      → (came ≡ at-place next d′ m true) × (at < next) × (next ≤ length p) × (m ≤ length d)
-  line-found next m e =
-      let f : came ≡ at-place next d′ m true =
-      cut-line (came .ended) (came .place) (came .held .space) (came .held .count) next m (sym told ∙ e) ∙ rw left in
-      let l = lies-in (at-place next d′ m true) f in
-      (f, l .onward refl, l .upto, l .fits .1)
+  came-is : (w : Bool) → came .ended ≡ w → came ≡ at-place (came .place) d′ (came .held .count) w
+  came-is w e = rw left (ap (at-place (came .place) (came .held .space) (came .held .count)) e)
 
-  pub more-found : (m : ℕ) → r ≡ More m → (came ≡ at-place (length p) d′ m false) × (m ≤ length d)
-  more-found m e =
-      let f : came ≡ at-place (came .place) d′ m false =
-      cut-more (came .ended) (came .place) (came .held .space) (came .held .count) m (sym told ∙ e) ∙ rw left in
-      let l = lies-in (at-place (came .place) d′ m false) f in
-      (f ∙ rw (l .used-up refl), l .fits .1)
+  tells-by : (w : Bool) → came .ended ≡ w → Tells p d d′ at n (pick w (Line (came .place) (came .held .count)) (More (came .held .count)))
+  tells-by true e = (came-is true e, came-lies .onward e, came-lies .upto, came-lies .fits .1)
+  tells-by false e = (came-is false e ∙ rw (came-lies .used-up e), came-lies .fits .1)
+
+  pub call-tells : (r : Cut) → r ≡ cutOf came → (s : Cut) → r ≡ s → Tells p d d′ at n s
+  call-tells r told s e = subst (Tells p d d′ at n) (sym told ∙ e) (tells-by (came .ended) refl)

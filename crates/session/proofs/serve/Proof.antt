@@ -1,16 +1,14 @@
 -- Each turn cuts a line and answers it behind the replies so far, or uses the piece up; what the whole call comes to is
 -- what serving the rest comes to from where the turn left it.
 use mathlib.Core.Path.{_≡_, refl, _∙_}
-use mathlib.Core.Bool.{true, false}
 use mathlib.Core.List.{List}
-use Prim.Native.Nat.{ℕ, _+_, _-_, _<_, _≤_}
+use Prim.Native.Nat.{ℕ, _+_, _-_, _≤_}
 use native.Mathlib.Omega.{arith}
 use borrow.Author.Tests.{lt-ltb}
 use lib.ListN.{length, drop}
-use Rattle.pieces.specs.declared.Cut.the-variants.{Line, More}
+use Rattle.pieces.specs.declared.Cut.{Cut}
 use Rattle.pieces.specs.Feeding.{feedBytes}
-use Rattle.pieces.specs.Cutting.{Sought, soughtIn}
-use Rattle.pieces.proofs.Laws.{at-place, stays, feed-end, line-found, more-found}
+use Rattle.pieces.proofs.Laws.{stays, feed-end, Tells, call-tells}
 use Rattle.session.specs.Serving.{serving, servedOf}
 use Rattle.session.proofs.Laws.{reply-fits, standing-at, told, turn-line, turn-more}
 use borrow.Author.Needs.{needs}
@@ -48,21 +46,11 @@ module _ (c : tie.After-next-line Inv-loop μ-loop) where
   abbrev piece : List ℕ
   piece = start head .args .piece .now
 
-  abbrev Came : Sought → Type 0
-  Came u = soughtIn piece (head .loop .next) (head .loop .line) (head .loop .n) ≡ u
-
-  line-cut : (next m : ℕ) → c .next-line .result ≡ Line next m
-      → Came (at-place next (c .next-line .last .1 .1 .0) m true)
-      × (head .loop .next < next) × (next ≤ length piece) × (m ≤ length (head .loop .line))
-  line-cut next m e =
-      line-found piece (head .loop .line) _ (head .loop .next) (head .loop .n) (c .next-line .result)
-      (c .next-line .ensures .0) (c .next-line .ensures .1) (omega arith) (head .loop .inv .0) next m e
-
-  more-cut : (m : ℕ) → c .next-line .result ≡ More m
-      → Came (at-place (length piece) (c .next-line .last .1 .1 .0) m false) × (m ≤ length (head .loop .line))
-  more-cut m e =
-      more-found piece (head .loop .line) _ (head .loop .next) (head .loop .n) (c .next-line .result)
-      (c .next-line .ensures .0) (c .next-line .ensures .1) (omega arith) (head .loop .inv .0) m e
+  tells : (s : Cut) → c .next-line .result ≡ s
+      → Tells piece (head .loop .line) (c .next-line .last .1 .1 .0) (head .loop .next) (head .loop .n) s
+  tells s e =
+      call-tells piece (head .loop .line) _ (head .loop .next) (head .loop .n) (c .next-line .ensures .1) (omega arith)
+      (head .loop .inv .0) (c .next-line .result) (c .next-line .ensures .0) s e
 
 abbrev asked : tie.After-slice-known3 Inv-loop μ-loop → tie.After-next-line Inv-loop μ-loop
 asked c = c .before .before
@@ -104,7 +92,7 @@ part-reply-at-end : tie.Need-part-reply-at-end Inv-loop μ-loop
 part-reply-at-end c =
     let m = c .before .before in
     let t = asked (m .before .before) in
-    let w = line-cut t _ _ (m .rest .given .1) in
+    let w = tells t _ (m .rest .given .1) in
     omega (arith, t .next-line .kept .1 .1 .0)
 
 add-filled : tie.Need-add-filled Inv-loop μ-loop
@@ -118,7 +106,7 @@ add-filled c =
 loop-less : tie.Need-loop-less Inv-loop μ-loop
 loop-less c =
     let r = replied (c .before .before) in
-    let w = line-cut (call r) _ _ (cut r .rest .given .1) in
+    let w = tells (call r) _ (cut r .rest .given .1) in
     omega (arith, turn (call r) .loop-test .taken)
 
 loop-again : tie.Need-loop-again Inv-loop μ-loop
@@ -129,7 +117,7 @@ loop-again c =
     let f = fits r in
     let e =
     turn-line _ (piece t) (k .line) (k .out) (k .registers) (k .next) (k .n) (k .filled) (k .inv .4)
-    (t .before .before .if1 .left) _ _ _ (r .reply-at .result) _ (line-cut t _ _ (cut r .rest .given .1) .0) (r .reply-at .ensures) in
+    (t .before .before .if1 .left) _ _ _ (r .reply-at .result) _ (tells t _ (cut r .rest .given .1) .0) (r .reply-at .ensures) in
     let line = t .next-line .kept .1 .1 .0 in
     let out = r .reply-at .kept .1 .1 .0 in
     (omega arith, line ∙ k .inv .1, omega arith, out ∙ k .inv .3, e)
@@ -138,7 +126,7 @@ loop-again-2 : tie.Need-loop-again-2 Inv-loop μ-loop
 loop-again-2 c =
     let t = asked (c .before .before .before) in
     let k = head t .loop in
-    let w = more-cut t _ (c .before .len .given .1) in
+    let w = tells t _ (c .before .len .given .1) in
     let e =
     turn-more _ (piece t) (k .line) (k .out) (k .registers) (k .next) (k .n) (k .filled) (k .inv .4)
     (t .before .before .if1 .left) _ _ (w .0) in
