@@ -1,7 +1,8 @@
 -- What is passed is digits, so the whole is what the rest is.
 use mathlib.Core.Path.{_≡_, sym, _∙_}
 use mathlib.Core.Bool.{true, false}
-use Prim.Native.Nat.{_-_, _≤_}
+use mathlib.Core.List.{List}
+use Prim.Native.Nat.{ℕ, _-_, _≤_}
 use native.Mathlib.Omega.{arith}
 use borrow.Author.Tests.{not-true, not-false}
 use lib.ListN.{length, drop}
@@ -17,20 +18,30 @@ Inv-loop line i₀ i = (i ≤ length line) × (allDigits line ≡ allDigits (dro
 abbrev μ-loop : tie.MeasureT-loop
 μ-loop line i₀ i = length line - i
 
+-- from the loop's head to the line, and from a tested byte back to the head of its turn
+abbrev line : tie.At-loop Inv-loop μ-loop → List ℕ
+line head = head .before .before .args .line .now
+
+abbrev turn : tie.After-is-digit Inv-loop μ-loop → tie.At-loop Inv-loop μ-loop
+turn tested = tested .before .before .before
+
 returns : tie.Need-returns Inv-loop μ-loop
 returns c =
-    let l = c .before .before .before .before .before .before .args .line .now in
-    let i = c .before .before .before .before .loop .i in
-    cc (all-step l i false (omega arith) (sym (c .before .is-digit .ensures) ∙ not-true _ (c .if1 .taken)))
+    let tested = c .before in
+    let head = turn tested in
+    cc (all-step (line head) (head .loop .i) false (omega arith) (sym (tested .is-digit .ensures) ∙ not-true _ (c .if1 .taken)))
 
 loop-again : tie.Need-loop-again Inv-loop μ-loop
 loop-again c =
-    let l = c .before .before .before .before .before .before .args .line .now in
-    let i = c .before .before .before .before .loop .i in
-    (omega arith, cc (all-step l i true (omega arith) (sym (c .before .is-digit .ensures) ∙ not-false _ (c .if1 .left))))
+    let tested = c .before in
+    let head = turn tested in
+    let digit = sym (tested .is-digit .ensures) ∙ not-false _ (c .if1 .left) in
+    (omega arith, cc (all-step (line head) (head .loop .i) true (omega arith) digit))
 
 returns-2 : tie.Need-returns-2 Inv-loop μ-loop
-returns-2 c = sym (c .before .loop .inv .1 ∙ all-end (c .before .before .before .args .line .now) (c .before .loop .i) (c .loop-test .left))
+returns-2 c =
+    let head = c .before in
+    sym (head .loop .inv .1 ∙ all-end (line head) (head .loop .i) (c .loop-test .left))
 
 pub all-digits-spec : {M : Type 1} → statement M
 all-digits-spec =

@@ -11,22 +11,33 @@ use Rattle.hex.proofs.byte_at.Tie as tie
 returns : tie.Need-returns
 returns c = let a = c .before .before .args in sym (bytes-past (a .line .now) (a .i) (c .if1 .taken))
 
+-- both digits' values found
+module _ (c : tie.After-value2) where
+  abbrev high : tie.After-value
+  high = c .before .before
+
+  abbrev inside : tie.Else1
+  inside = high .before .before
+
+  abbrev start : tie.Start
+  start = inside .before .before
+
 mul-result : tie.Need-mul-result
 mul-result c =
-    let a = c .before .before .before .before .before .before .args in
-    omega (arith, c .before .before .value .ensures, value-small (getD (a .line .now) (2 * a .i) 0))
+    let a = start c .args in
+    omega (arith, high c .value .ensures, value-small (getD (a .line .now) (2 * a .i) 0))
 
 add-result : tie.Need-add-result
 add-result c =
-    let a = c .before .before .before .before .before .before .args in
-    let high = value-small (getD (a .line .now) (2 * a .i) 0) in
-    let low = value-small (getD (a .line .now) (2 * a .i + 1) 0) in
-    omega (arith, c .before .before .value .ensures, c .value2 .ensures)
+    let a = start c .args in
+    let first = value-small (getD (a .line .now) (2 * a .i) 0) in
+    let second = value-small (getD (a .line .now) (2 * a .i + 1) 0) in
+    omega (arith, high c .value .ensures, c .value2 .ensures)
 
 returns-2 : tie.Need-returns-2
 returns-2 c =
-    let a = c .before .before .before .before .before .before .args in
-    omega (arith, c .before .before .value .ensures, c .value2 .ensures, bytes-at (a .line .now) (a .i) (omega arith))
+    let a = start c .args in
+    omega (arith, high c .value .ensures, c .value2 .ensures, bytes-at (a .line .now) (a .i) (omega arith))
 
 pub byte-at-spec : {M : Type 1} → statement M
 byte-at-spec =

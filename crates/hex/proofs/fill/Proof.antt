@@ -16,14 +16,19 @@ Inv-loop line space₀ n i₀ space i = (i ≤ n) × (space ≡ over i (bytesOf 
 abbrev μ-loop : tie.MeasureT-loop
 μ-loop line space₀ n i₀ space i = n - i
 
+-- from before the loop to the start
+abbrev start : tie.After-slice-known Inv-loop μ-loop → tie.Start Inv-loop μ-loop
+start c = c .before .before
+
 loop-holds : tie.Need-loop-holds Inv-loop μ-loop
 loop-holds c = (search needs, refl, refl)
 
 loop-again : tie.Need-loop-again Inv-loop μ-loop
 loop-again c =
-    let a = c .before .before .before .before .before .args in
+    let head = c .before .before in
+    let a = start (head .before) .args in
     let l = a .line .now in
-    let k = c .before .before .loop in (
+    let k = head .loop in (
       omega arith,
       over-next (k .i) (bytesOf l) (a .space .now) (k .space) (c .byte-at .result) 0 (k .inv .1) (c .byte-at .ensures)
           (omega (arith, bytes-length l)) (omega arith),
@@ -32,7 +37,7 @@ loop-again c =
 
 returns : tie.Need-returns Inv-loop μ-loop
 returns c =
-    let a = c .before .before .before .before .args in
+    let a = start (c .before .before) .args in
     let l = a .line .now in
     let k = c .before .loop in
     let e : k .i ≡ length l / 2 = omega arith in

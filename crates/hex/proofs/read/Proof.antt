@@ -11,18 +11,24 @@ use borrow.Author.Needs.{needs}
 use Rattle.hex.proofs.read.Statement.{statement}
 use Rattle.hex.proofs.read.Tie as tie
 
+-- from before the test to the start
+abbrev start : tie.After-slice-known → tie.Start
+start c = c .before .before
+
 returns : tie.Need-returns
 returns c =
-    let a = c .before .before .before .args in
+    let a = start (c .before) .args in
     let l = a .line .now in
     (sym (lt-leb _ _ (c .if1 .taken)), sym (written-not (bytesOf l) (a .space .now) (length l / 2) (bytes-length l) (omega arith)))
 
 returns-2 : tie.Need-returns-2
 returns-2 c =
-    let a = c .before .before .before .before .before .before .before .args in
+    let filled = c .before .before in
+    let room = filled .before .before in
+    let a = start (room .before) .args in
     let l = a .line .now in (
-      sym (le-leb _ _ (c .before .before .before .before .if1 .left)),
-      c .before .before .fill .ensures ∙ sym (written-fits (bytesOf l) (a .space .now) (length l / 2) (bytes-length l) (omega arith)),
+      sym (le-leb _ _ (room .if1 .left)),
+      filled .fill .ensures ∙ sym (written-fits (bytesOf l) (a .space .now) (length l / 2) (bytes-length l) (omega arith)),
     )
 
 pub read-spec : {M : Type 1} → statement M

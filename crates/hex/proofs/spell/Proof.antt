@@ -17,6 +17,14 @@ Inv-loop bytes space₀ i₀ space i = (i ≤ length bytes) × (space ≡ over (
 abbrev μ-loop : tie.MeasureT-loop
 μ-loop bytes space₀ i₀ space i = length bytes - i
 
+-- from before the loop to the start
+abbrev start : tie.After-slice-known Inv-loop μ-loop → tie.Start Inv-loop μ-loop
+start c = c .before .before
+
+-- from both digits of a byte back to the head of their turn
+abbrev turn : tie.After-low-digit Inv-loop μ-loop → tie.At-loop Inv-loop μ-loop
+turn c = c .before .before .before .before
+
 loop-holds : tie.Need-loop-holds Inv-loop μ-loop
 loop-holds c = (search needs, refl, refl)
 
@@ -26,10 +34,10 @@ slice-write-space-2 c = simp length-set (omega arith)
 loop-again : tie.Need-loop-again Inv-loop μ-loop
 unfolding lineOf
 loop-again c =
-    let a = c .before .before .before .before .before .before .before .args in
+    let a = start (turn c .before) .args in
     let f = a .bytes .now in
     let d = a .space .now in
-    let k = c .before .before .before .before .loop in
+    let k = turn c .loop in
     let i = k .i in
     let inside : suc i ≤ length f = omega arith in
     let n = line-length f in
@@ -48,7 +56,7 @@ same-length c = simp length-set (omega arith)
 
 returns : tie.Need-returns Inv-loop μ-loop
 returns c =
-    let a = c .before .before .before .before .args in
+    let a = start (c .before .before) .args in
     let f = a .bytes .now in
     let d = a .space .now in
     let k = c .before .loop in
