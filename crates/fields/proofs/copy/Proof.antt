@@ -23,8 +23,9 @@ loop-holds c = (search needs, paste-zero (c .args .buffer .now) (c .args .at) (c
 
 loop-again : tie.Need-loop-again Inv-loop μ-loop
 loop-again c =
-    let a = c .before .before .before .args in
-    let k = c .before .before .loop in
+    let head = c .before .before in
+    let a = head .before .args in
+    let k = head .loop in
     let h : suc (k .i) ≤ length (a .source .now) = omega arith in (
       omega arith,
       rw (k .inv .1, add-one) (paste-suc (a .buffer .now) (a .at) (a .source .now) (k .i) 0 (omega arith) h),
@@ -34,10 +35,11 @@ loop-again c =
 returns : tie.Need-returns Inv-loop μ-loop
 unfolding putAt
 returns c =
-    let a = c .before .before .args in
+    let start = c .before .before in
+    let a = start .args in
     let k = c .before .loop in
     let e : k .i ≡ length (a .source .now) = omega arith in
-    k .inv .1 ∙ rw (e, take-length, le-leb _ _ (c .before .before .pre), append-assoc)
+    k .inv .1 ∙ rw (e, take-length, le-leb _ _ (start .pre), append-assoc)
 
 pub copy-spec : {M : Type 1} → statement M
 copy-spec =

@@ -16,6 +16,10 @@ Inv-loop s at out₀ i₀ out i = (i ≤ 32) × (out ≡ over i (digestAt s at) 
 abbrev μ-loop : tie.MeasureT-loop
 μ-loop s at out₀ i₀ out i = 32 - i
 
+-- from before the loop to the start
+abbrev start : tie.Else1 Inv-loop μ-loop → tie.Start Inv-loop μ-loop
+start c = c .before .before
+
 returns : tie.Need-returns Inv-loop μ-loop
 unfolding digestAt
 returns c = let a = c .before .before .args in rw (drop-of-length-le (a .s .now) (c .if1 .taken))
@@ -25,9 +29,10 @@ loop-holds c = (search needs, refl, refl)
 
 loop-again : tie.Need-loop-again Inv-loop μ-loop
 loop-again c =
-    let a = c .before .before .before .before .before .args in
+    let head = c .before .before in
+    let a = start (head .before) .args in
     let s = a .s .now in
-    let k = c .before .before .loop in
+    let k = head .loop in
     let b = c .byte-at .ensures ∙ sym (digest-at-byte s (a .at) (k .i) (omega arith)) in
     let size = digest-at-length s (a .at) in (
       omega arith,
@@ -37,7 +42,7 @@ loop-again c =
 
 returns-2 : tie.Need-returns-2 Inv-loop μ-loop
 returns-2 c =
-    let a = c .before .before .before .before .args in
+    let a = start (c .before .before) .args in
     let s = a .s .now in
     let k = c .before .loop in
     let e : k .i ≡ 32 = omega arith in
