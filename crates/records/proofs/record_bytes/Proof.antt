@@ -12,23 +12,22 @@ use Rattle.records.proofs.record_bytes.Tie as tie
 
 returns : tie.Need-returns
 returns c =
-    let p4 = c .before in
-    let p3 = p4 .before .before .before .before in
-    let p2 = p3 .before .before .before .before in
-    let p1 = p2 .before .before .before .before in
-    let n = p1 .before .before .before in
-    let n4 = n .spelled4 in
-    let n3 = n .before .spelled3 in
-    let n2 = n .before .before .spelled2 in
-    let n1 = n .before .before .before .spelled in
+    let rigging = c .before in
+    let offset = rigging .before .before .before .before in
+    let mass = offset .before .before .before .before in
+    let revision = mass .before .before .before .before in
+    let g = revision .before .before .before in
+    let o = g .before in
+    let m = o .before in
+    let v = m .before in
     let d : List ℕ = replicate 32 0 in
     let r0 : Front d d [] 0 = record { here = refl; long = refl } in
-    let r1 = front-next _ _ 8 8 r0 (p1 .put .ensures) (omega (arith, n1 .ok)) refl (omega arith) in
-    let r2 = front-next _ _ 8 16 r1 (p2 .put2 .ensures) (omega (arith, n2 .ok)) refl (omega arith) in
-    let r3 = front-next _ _ 8 24 r2 (p3 .put3 .ensures) (omega (arith, n3 .ok)) refl (omega arith) in
-    let r4 = front-next _ _ 8 32 r3 (p4 .put4 .ensures) (omega (arith, n4 .ok)) refl (omega arith) in
-    r4 .here ∙ behind4 [] (n1 .result) (n2 .result) (n3 .result) (n4 .result)
-    ∙ (λ i. n1 .ensures i ++ (n2 .ensures i ++ (n3 .ensures i ++ (n4 .ensures i ++ []))))
+    let r1 = front-next _ _ 8 8 r0 (revision .put .ensures) (omega (arith, v .spelled .ok)) refl (omega arith) in
+    let r2 = front-next _ _ 8 16 r1 (mass .put2 .ensures) (omega (arith, m .spelled2 .ok)) refl (omega arith) in
+    let r3 = front-next _ _ 8 24 r2 (offset .put3 .ensures) (omega (arith, o .spelled3 .ok)) refl (omega arith) in
+    let r4 = front-next _ _ 8 32 r3 (rigging .put4 .ensures) (omega (arith, g .spelled4 .ok)) refl (omega arith) in
+    r4 .here ∙ behind4 [] (v .spelled .result) (m .spelled2 .result) (o .spelled3 .result) (g .spelled4 .result)
+    ∙ (λ i. v .spelled .ensures i ++ (m .spelled2 .ensures i ++ (o .spelled3 .ensures i ++ (g .spelled4 .ensures i ++ []))))
 
 pub record-bytes-spec : {M : Type 1} → statement M
 record-bytes-spec =
