@@ -11,9 +11,11 @@ use Rattle.sha256.proofs.block.Tie as tie
 returns : tie.Need-returns
 unfolding blockWith
 returns c =
-    let a = c .before .before .before .before .before .before .args in
-    let filled = ap (λ (l : List _). turnsFrom 64 0 (now (a .ks)) l (a .s)) (c .before .before .before .fill .ensures) in
-    c .sum .ensures ∙ ap (added (a .s)) (c .before .turns .ensures ∙ filled)
+    let ran = c .before in
+    let filled = ran .before .before in
+    let a = filled .before .before .before .args in
+    let on-filled = ap (λ (l : List _). turnsFrom 64 0 (now (a .ks)) l (a .s)) (filled .fill .ensures) in
+    c .sum .ensures ∙ ap (added (a .s)) (ran .turns .ensures ∙ on-filled)
 
 pub block-spec : {M : Type 1} → statement M
 block-spec = tie.close (tie.spec (λ c κs. search needs) (λ c κs. search needs) (λ c κs. search needs) returns)

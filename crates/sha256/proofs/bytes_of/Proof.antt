@@ -10,19 +10,20 @@ use Rattle.sha256.proofs.bytes_of.Tie as tie
 
 returns : tie.Need-returns
 returns c =
-    let p7 = c .before .before in
-    let p6 = p7 .before .before in
-    let p5 = p6 .before .before in
-    let p4 = p5 .before .before in
-    let p3 = p4 .before .before in
-    let p2 = p3 .before .before in
-    let s = p2 .before .before .before .before .args .s in
-    let e2 = p2 .put2 .ensures ∙ ap (λ (l : List ℕ). sets l 4 (be32 (s .b))) (p2 .before .before .put .ensures) in
-    let e3 = p3 .put3 .ensures ∙ ap (λ (l : List ℕ). sets l 8 (be32 (s .c))) e2 in
-    let e4 = p4 .put4 .ensures ∙ ap (λ (l : List ℕ). sets l 12 (be32 (s .d))) e3 in
-    let e5 = p5 .put5 .ensures ∙ ap (λ (l : List ℕ). sets l 16 (be32 (s .e))) e4 in
-    let e6 = p6 .put6 .ensures ∙ ap (λ (l : List ℕ). sets l 20 (be32 (s .f))) e5 in
-    let e7 = p7 .put7 .ensures ∙ ap (λ (l : List ℕ). sets l 24 (be32 (s .g))) e6 in
+    let to-g = c .before .before in
+    let to-f = to-g .before .before in
+    let to-e = to-f .before .before in
+    let to-d = to-e .before .before in
+    let to-c = to-d .before .before in
+    let to-b = to-c .before .before in
+    let only-a = to-b .before .before in
+    let s = only-a .before .before .args .s in
+    let e2 = to-b .put2 .ensures ∙ ap (λ (l : List ℕ). sets l 4 (be32 (s .b))) (only-a .put .ensures) in
+    let e3 = to-c .put3 .ensures ∙ ap (λ (l : List ℕ). sets l 8 (be32 (s .c))) e2 in
+    let e4 = to-d .put4 .ensures ∙ ap (λ (l : List ℕ). sets l 12 (be32 (s .d))) e3 in
+    let e5 = to-e .put5 .ensures ∙ ap (λ (l : List ℕ). sets l 16 (be32 (s .e))) e4 in
+    let e6 = to-f .put6 .ensures ∙ ap (λ (l : List ℕ). sets l 20 (be32 (s .f))) e5 in
+    let e7 = to-g .put7 .ensures ∙ ap (λ (l : List ℕ). sets l 24 (be32 (s .g))) e6 in
     c .put8 .ensures ∙ ap (λ (l : List ℕ). sets l 28 (be32 (s .h))) e7
 
 pub bytes-of-spec : {M : Type 1} → statement M

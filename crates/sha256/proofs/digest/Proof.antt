@@ -27,14 +27,24 @@ Inv-loop message n ks s₀ i₀ s i = (i ≤ n) × (n ≡ blocks (length message
 abbrev μ-loop : tie.MeasureT-loop
 μ-loop message n ks s₀ i₀ s i = n - i
 
+-- before the loop: the blocks counted, and the start
+module _ (c : tie.After-initial Inv-loop μ-loop) where
+  abbrev counted : tie.After-blocks2 Inv-loop μ-loop
+  counted = c .before .before
+
+  abbrev start : tie.Start Inv-loop μ-loop
+  start = counted .before .before
+
 loop-holds : tie.Need-loop-holds Inv-loop μ-loop
 unfolding hash
-loop-holds c = (search needs, c .before .before .blocks2 .ensures, c .before .constants .ensures, c .initial .ensures)
+loop-holds c = (search needs, counted c .blocks2 .ensures, c .before .constants .ensures, c .initial .ensures)
 
 loop-again : tie.Need-loop-again Inv-loop μ-loop
 loop-again c =
-    let k = c .before .before .before .loop in
-    let p = pad (now (c .before .before .before .before .before .before .before .before .args .message)) in (
+    let turn = c .before .before in
+    let head = turn .before in
+    let k = head .loop in
+    let p = pad (now (start (head .before) .args .message)) in (
       search needs,
       k .inv .1,
       k .inv .2,
@@ -44,8 +54,9 @@ loop-again c =
 returns : tie.Need-returns Inv-loop μ-loop
 unfolding sha256
 returns c =
-    let k = c .before .before .loop in
-    let m = now (c .before .before .before .before .before .before .before .args .message) in
+    let head = c .before .before in
+    let k = head .loop in
+    let m = now (start (head .before) .args .message) in
     let done : k .i ≡ length (pad m) / 64 = omega (arith, pad-length m) in
     c .bytes-of .ensures ∙ ap bytesOf (k .inv .3 ∙ ap (hash (pad m)) done)
 

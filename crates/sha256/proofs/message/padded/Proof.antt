@@ -11,26 +11,34 @@ use borrow.Author.Needs.{needs}
 use Rattle.sha256.proofs.message.padded.Statement.{statement}
 use Rattle.sha256.proofs.message.padded.Tie as tie
 
+-- from past the message to the start
+abbrev start : tie.Else1 → tie.Start
+start c = c .before .before
+
 returns : tie.Need-returns
-returns c = let a = c .before .before .before .args in sym (in-message (now (a .message)) (a .i) (c .before .if1 .taken))
+returns c =
+    let inside = c .before in
+    let a = inside .before .before .args in
+    sym (in-message (now (a .message)) (a .i) (inside .if1 .taken))
 
 returns-2 : tie.Need-returns-2
 returns-2 c =
-    let a = c .before .before .before .args in
+    let a = start (c .before) .args in
     let m = now (a .message) in
     sym (ap (λ (k : ℕ). getD (pad m) k 0) (c .if2 .taken) ∙ at-mark m)
 
 returns-3 : tie.Need-returns-3
 returns-3 c =
-    let a = c .before .before .before .before .before .args in
+    let past-mark = c .before .before in
+    let a = start (past-mark .before) .args in
     sym (in-zeros (now (a .message)) (a .i) (omega arith) (omega arith))
 
 returns-4 : tie.Need-returns-4
 returns-4 c =
-    let p = c .before .before in
-    let a = c .before .before .before .before .before .before .args in
+    let counted = c .before .before in
+    let a = start (counted .before .before) .args in
     let m = now (a .message) in
-    let end : ℕ = p .blocks2 .result * 64 in
+    let end : ℕ = counted .blocks2 .result * 64 in
     let bits : length m * 2 ^ 3 ≡ 8 * length m = omega arith in
     let place : (end - 1 - a .i) * 8 ≡ (blocks (length m) * 64 - 1 - a .i) * 8 = omega arith in
     c .byte .ensures ∙ low64 (length m * 2 ^ 3) ((end - 1 - a .i) * 8) (omega arith)

@@ -13,7 +13,10 @@ use Rattle.sha256.proofs.message.word_at.Tie as tie
 returns : tie.Need-returns
 unfolding wordAt
 returns c =
-    let a = c .before .before .before .before .before .before .before .args in
+    let third = c .before .before in
+    let first = third .before .before in
+    let inside = first .before in
+    let a = inside .before .before .args in
     let m = now (a .message) in
     let at : (k : ℕ) → k < length m → getD m k 0 ≡ getD (pad m) k 0 = λ k h. sym (in-message m k h) in
     let j = a .j in
@@ -23,7 +26,9 @@ returns c =
 returns-2 : tie.Need-returns-2
 unfolding wordAt
 returns-2 c =
-    let a = c .before .before .before .before .before .args in
+    let counted = c .before in
+    let past = counted .before .before in
+    let a = past .before .before .args in
     let m = now (a .message) in
     let at : (k : ℕ) → length m < k → k + 8 < blocks (length m) * 64 → 0 ≡ getD (pad m) k 0 = λ k h l. sym (in-zeros m k h l) in
     let j = a .j in

@@ -22,8 +22,9 @@ loop-holds c = (search needs, refl, refl)
 
 loop-again : tie.Need-loop-again Inv-loop μ-loop
 loop-again c =
-    let k = c .before .before .loop in
-    let a = c .before .before .before .args in
+    let head = c .before .before in
+    let k = head .loop in
+    let a = head .before .args in
     let from0 : k .i ≡ 0 + k .i = omega arith in
     let ks = now (a .ks) in
     let ws = now (a .ws) in (

@@ -23,9 +23,10 @@ loop-holds c = (search needs, search needs, c .before .pre .0, c .before .pre .1
 
 loop-again : tie.Need-loop-again Inv-loop μ-loop
 loop-again c =
-    let p = c .before .before .before .before .before .before in
-    let a = c .before .before .before .before .before .before .before .before .args in
-    let k = p .loop in (
+    let earlier = c .before .before .before .before in
+    let head = earlier .before .before in
+    let a = head .before .before .args in
+    let k = head .loop in (
       search needs,
       search needs,
       simp length-set (omega arith),
@@ -34,8 +35,9 @@ loop-again c =
 
 returns : tie.Need-returns Inv-loop μ-loop
 returns c =
-    let k = c .before .loop in
-    let a = c .before .before .before .args in
+    let head = c .before in
+    let k = head .loop in
+    let a = head .before .before .args in
     let done : k .t ≡ 64 = omega arith in
     sym (take-all 64 (k .ws) (omega arith)) ∙ ap (λ (n : ℕ). take n (k .ws)) (sym done) ∙ k .inv .3
     ∙ ap (schedule (pad (now (a .message))) (a .i)) done

@@ -23,8 +23,9 @@ loop-holds c = (search needs, c .before .pre .1, refl)
 
 loop-again : tie.Need-loop-again Inv-loop μ-loop
 loop-again c =
-    let a = c .before .before .before .before .args in
-    let k = c .before .before .loop in
+    let head = c .before .before in
+    let a = head .before .before .args in
+    let k = head .loop in
     let w = c .word-at in (
       search needs,
       simp length-set (omega arith),
@@ -33,8 +34,9 @@ loop-again c =
 
 returns : tie.Need-returns Inv-loop μ-loop
 returns c =
-    let k = c .before .loop in
-    let a = c .before .before .before .args in
+    let head = c .before in
+    let k = head .loop in
+    let a = head .before .before .args in
     let done : k .t ≡ 16 = omega arith in
     (k .inv .1, ap (λ (n : ℕ). take n (k .ws)) (sym done) ∙ k .inv .2 ∙ ap (schedule (pad (now (a .message))) (a .i)) done)
 
