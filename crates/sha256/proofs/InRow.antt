@@ -7,7 +7,7 @@ use native.Mathlib.Omega.{arith}
 use lib.ListN.{getD}
 use Rattle.sha256.specs.declared.State.{State}
 use Rattle.sha256.specs.Constants.{K}
-use Rattle.sha256.specs.Hash.{turned, rounds}
+use Rattle.sha256.specs.Hash.{afterTurn, rounds}
 use Rattle.sha256.specs.Work.{turnsFrom}
 
 -- m turns from turn i on, and then n more
@@ -17,10 +17,10 @@ unfolding turnsFrom
 in-row m zero i ks ws s = ap (λ (k : ℕ). turnsFrom k i ks ws s) (sym (zero-add m))
 in-row m (suc n) i ks ws s =
     let e : (i + m) + n ≡ i + (n + m) = omega arith in
-    (λ j. turned (in-row m n i ks ws s j) (getD ks (e j) 0) (getD ws (e j) 0))
+    (λ j. afterTurn (in-row m n i ks ws s j) (getD ks (e j) 0) (getD ws (e j) 0))
     ∙ ap (λ (k : ℕ). turnsFrom k i ks ws s) (sym (suc-add n m))
 
 pub all-rounds : (n : ℕ) (ws : List ℕ) (s : State) → turnsFrom n 0 K ws s ≡ rounds n ws s
 unfolding turnsFrom rounds
 all-rounds zero ws s = refl
-all-rounds (suc n) ws s = λ j. turned (all-rounds n ws s j) (getD K (zero-add n j) 0) (getD ws (zero-add n j) 0)
+all-rounds (suc n) ws s = λ j. afterTurn (all-rounds n ws s j) (getD K (zero-add n j) 0) (getD ws (zero-add n j) 0)

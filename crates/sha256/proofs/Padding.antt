@@ -103,7 +103,7 @@ module _ (m : List ℕ) where
         whole = pad-length m;
         message = take-append-seam m _;
         mark = at-mark;
-        zero = in-zeros;
+        zerosBehind = in-zeros;
         size = last-eight;
         solves = solves (length m);
         least = least (length m);

@@ -34,8 +34,8 @@ unfoldable pub T2 : State → ℕ
 T2 s = bigSigma0 (s .a) ⊞ Maj (s .a) (s .b) (s .c)
 
 -- one turn of step 3, with the constant k and the word w
-unfoldable pub turned : State → ℕ → ℕ → State
-turned s k w =
+unfoldable pub afterTurn : State → ℕ → ℕ → State
+afterTurn s k w =
     record {
       a = T1 s k w ⊞ T2 s;
       b = s .a;
@@ -50,7 +50,7 @@ turned s k w =
 -- steps 2 and 3: the working variables after the turns t = 0 to n - 1, begun at s
 unfoldable pub rounds : ℕ → List ℕ → State → State
 rounds zero ws s = s
-rounds (suc t) ws s = turned (rounds t ws s) (getD K t 0) (getD ws t 0)
+rounds (suc t) ws s = afterTurn (rounds t ws s) (getD K t 0) (getD ws t 0)
 
 -- step 4: the hash value and the working variables added, word by word
 abbrev pub added : State → State → State
@@ -72,11 +72,11 @@ hash p zero = H0
 hash p (suc i) = added (hash p i) (rounds 64 (schedule p i 64) (hash p i))
 
 -- the message digest: the eight words of the last hash value
-abbrev pub bytesOf : State → List ℕ
-bytesOf s =
+abbrev pub wordsAsBytes : State → List ℕ
+wordsAsBytes s =
     be32 (s .a) ++ (be32 (s .b) ++ (be32 (s .c) ++ (be32 (s .d)
     ++ (be32 (s .e) ++ (be32 (s .f) ++ (be32 (s .g) ++ be32 (s .h)))))))
 
 -- the SHA-256 digest of a message of bytes, as 32 bytes
 unfoldable pub sha256 : List ℕ → List ℕ
-sha256 m = bytesOf (hash (pad m) (length (pad m) / 64))
+sha256 m = wordsAsBytes (hash (pad m) (length (pad m) / 64))

@@ -25,7 +25,7 @@ pub record Padded (m : List ℕ) : Type 0 where
   pub whole : length (pad m) ≡ blocks (length m) * 64
   pub message : take (length m) (pad m) ≡ m
   pub mark : getD (pad m) (length m) 0 ≡ 0x80
-  pub zero : (i : ℕ) → length m < i → i + 8 < blocks (length m) * 64 → getD (pad m) i 0 ≡ 0
+  pub zerosBehind : (i : ℕ) → length m < i → i + 8 < blocks (length m) * 64 → getD (pad m) i 0 ≡ 0
   pub size : drop (blocks (length m) * 64 - 8) (pad m) ≡ be64 (8 * length m)
   pub solves : (8 * length m + 1 + (7 + 8 * zeros (length m))) % 512 ≡ 448
   pub least : (k : ℕ) → (8 * length m + 1 + k) % 512 ≡ 448 → 7 + 8 * zeros (length m) ≤ k

@@ -4,12 +4,12 @@ use Prim.Native.Nat.{ℕ, zero, suc, _+_}
 use mathlib.Core.List.{List}
 use lib.ListN.{getD}
 use Rattle.sha256.specs.declared.State.{State}
-use Rattle.sha256.specs.Hash.{schedule, turned, added}
+use Rattle.sha256.specs.Hash.{schedule, afterTurn, added}
 
 -- n turns from turn i on, with any constants ks and any words ws
 unfoldable pub turnsFrom : ℕ → ℕ → List ℕ → List ℕ → State → State
 turnsFrom zero i ks ws s = s
-turnsFrom (suc n) i ks ws s = turned (turnsFrom n i ks ws s) (getD ks (i + n) 0) (getD ws (i + n) 0)
+turnsFrom (suc n) i ks ws s = afterTurn (turnsFrom n i ks ws s) (getD ks (i + n) 0) (getD ws (i + n) 0)
 
 -- a block of the padded message p taken in, with any constants ks
 unfoldable pub blockWith : List ℕ → List ℕ → ℕ → State → State

@@ -9,7 +9,7 @@ ghost use lib.Seq.{sets};
 ghost use Rattle.seqs.specs.Bytes.{be32};
 ghost use Rattle.sha256.specs.Constants.{H0};
 ghost use Rattle.sha256.specs.Padding.{pad};
-ghost use Rattle.sha256.specs.Hash.{added, bytesOf, sha256};
+ghost use Rattle.sha256.specs.Hash.{added, wordsAsBytes, sha256};
 ghost use Rattle.sha256.specs.Work.{blockWith};
 ghost use Rattle.sha256.specs.Padding as Counted;
 use std::num::wrapping_add_u32;
@@ -85,7 +85,7 @@ fn put(out: &mut [u8; 32], k: usize, x: u32)
 
 // The 32 bytes of a hash value.
 fn bytes_of(s: State) -> [u8; 32]
-    ensures { λ r. ⌜ r ≡ bytesOf s ⌝ }
+    ensures { λ r. ⌜ r ≡ wordsAsBytes s ⌝ }
 {
     let mut out = [0u8; 32];
     put(&mut out, 0, s.a);

@@ -2,7 +2,7 @@
 ghost use mathlib.Core.Path.{_≡_};
 ghost use Prim.Native.Nat.{_+_, _≤_};
 ghost use Rattle.sha256.specs.Constants.{K};
-ghost use Rattle.sha256.specs.Hash.{turned};
+ghost use Rattle.sha256.specs.Hash.{afterTurn};
 ghost use Rattle.sha256.specs.Work.{turnsFrom};
 use crate::State;
 use crate::words::big0;
@@ -88,7 +88,7 @@ pub(crate) fn constants() -> [u32; 64]
 
 // One turn, with its constant and its word.
 fn turn(s: State, k: u32, w: u32) -> State
-    ensures { λ r. ⌜ r ≡ turned s k w ⌝ }
+    ensures { λ r. ⌜ r ≡ afterTurn s k w ⌝ }
 {
     let t1 = wrapping_add_u32(
         wrapping_add_u32(

@@ -8,7 +8,7 @@ use lib.ListN.{length}
 use denote.Ref.{now}
 use Rattle.sha256.specs.Constants.{K}
 use Rattle.sha256.specs.Padding.{pad, blocks}
-use Rattle.sha256.specs.Hash.{added, schedule, hash, bytesOf, sha256}
+use Rattle.sha256.specs.Hash.{added, schedule, hash, wordsAsBytes, sha256}
 use Rattle.sha256.specs.Work.{blockWith}
 use Rattle.sha256.proofs.Padding.{pad-length}
 use Rattle.sha256.proofs.InRow.{all-rounds}
@@ -58,7 +58,7 @@ returns c =
     let k = head .loop in
     let m = now (start (head .before) .args .message) in
     let done : k .i ≡ length (pad m) / 64 = omega (arith, pad-length m) in
-    c .bytes-of .ensures ∙ ap bytesOf (k .inv .3 ∙ ap (hash (pad m)) done)
+    c .bytes-of .ensures ∙ ap wordsAsBytes (k .inv .3 ∙ ap (hash (pad m)) done)
 
 pub digest-spec : {M : Type 1} → statement M
 digest-spec =

@@ -4,7 +4,7 @@ use Prim.Native.Nat.{ℕ}
 use native.Mathlib.Nat.{add-zero}
 use lib.ListN.{getD}
 use denote.Ref.{now}
-use Rattle.sha256.specs.Hash.{turned}
+use Rattle.sha256.specs.Hash.{afterTurn}
 use Rattle.sha256.specs.Work.{turnsFrom}
 use borrow.Author.Needs.{needs}
 use Rattle.sha256.proofs.rounds.one.Statement.{statement}
@@ -14,7 +14,7 @@ returns : tie.Need-returns
 unfolding turnsFrom
 returns c =
     let a = c .before .before .before .args in
-    c .turn .ensures ∙ ap (λ (n : ℕ). turned (a .s) (getD (now (a .ks)) n 0) (getD (now (a .ws)) n 0)) (sym (add-zero (a .i)))
+    c .turn .ensures ∙ ap (λ (n : ℕ). afterTurn (a .s) (getD (now (a .ks)) n 0) (getD (now (a .ws)) n 0)) (sym (add-zero (a .i)))
 
 pub one-spec : {M : Type 1} → statement M
 one-spec =
