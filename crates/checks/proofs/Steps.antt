@@ -28,7 +28,7 @@ use Rattle.replies.specs.Outcomes.{outcomeOf, outcome, refusal, answerLength, a
 use Rattle.places.specs.Places.{requestAt}
 use Rattle.places.proofs.Places.{answer-short}
 use Rattle.checks.specs.declared.Judged.{Judged}
-use Rattle.checks.specs.Steps.{unjudged, counted, afterCheck, Next, afterWork, Worked, Formed, afterChecks, Ran, ending, Finished, Concludes, memoCheck, comparing, Compared, comparingEither, ComparedEither, issuing, Issued}
+use Rattle.checks.specs.Steps.{unjudged, blocksMore, afterCheck, Next, afterWork, Worked, Formed, afterChecks, Ran, ending, Finished, Concludes, memoCheck, comparing, Compared, comparingEither, ComparedEither, issuing, Issued}
 
 -- ── one check ──
 
@@ -37,7 +37,7 @@ pub stopped : {j : Judged} {c : Check} → j .stopped ≡ true → Next j c j
 unfolding afterCheck
 stopped e = record { is = rw e refl }
 
-pub going : {j : Judged} {c : Check} {k : ℕ} → j .stopped ≡ false → k ≡ counted j (cost (c .forms))
+pub going : {j : Judged} {c : Check} {k : ℕ} → j .stopped ≡ false → k ≡ blocksMore j (cost (c .forms))
     → Next j c (record { stopped = c .fails; number = c .number; blocks = k })
 unfolding afterCheck
 going {j} e h = record { is = rw (e, h) refl }
@@ -129,7 +129,7 @@ both-formed {i} {fs = fs} {gs} e f =
 -- words of any kind, as the code works and compares them
 work-then : (b : Bool) (n k x number : ℕ) (f : Bool)
     → let j : Judged = record { stopped = b; number = n; blocks = k } in
-    afterCheck (afterWork j x) (plain number f) ≡ pick b j (record { stopped = f; number = number; blocks = counted j x })
+    afterCheck (afterWork j x) (plain number f) ≡ pick b j (record { stopped = f; number = number; blocks = blocksMore j x })
 unfolding afterCheck afterWork
 work-then true n k x number f = refl
 work-then false n k x number f =
@@ -138,7 +138,7 @@ work-then false n k x number f =
 
 abbrev with-digest : Judged → (number : ℕ) (m : Dig) → Digest → Judged
 with-digest j number m d =
-    pick (j .stopped) j (record { stopped = opposite (same (d .bytes) m); number = number; blocks = counted j (d .blocks) })
+    pick (j .stopped) j (record { stopped = opposite (same (d .bytes) m); number = number; blocks = blocksMore j (d .blocks) })
 
 module _ {secret m : Dig} where
   pub compared-by : {i j k : Judged} {number : ℕ} {s : Says} {d : Digest} {b : Bool} → d ≡ madeOf s secret
@@ -179,11 +179,11 @@ pub issued-by : {r : Registers} {j k : Judged} {first : ℕ} {s : Says} {d : Dig
     → d ≡ madeOf s (r .secret) → Worked j (d .blocks) k → o ≡ acceptance r first (d .bytes) (k .blocks) → Issued r j first s o
 unfolding issuing afterWork
 issued-by {r} {j} {first = first} {d = d} going e w o =
-    let n : afterWork j (d .blocks) .blocks ≡ counted j (d .blocks) = rw going refl in
+    let n : afterWork j (d .blocks) .blocks ≡ blocksMore j (d .blocks) = rw going refl in
     record {
       is =
           o ∙ ap (acceptance r first (d .bytes)) (ap (λ (x : Judged). x .blocks) (w .is) ∙ n)
-          ∙ ap (λ (x : Digest). acceptance r first (x .bytes) (counted j (x .blocks))) e ∙ rw going refl;
+          ∙ ap (λ (x : Digest). acceptance r first (x .bytes) (blocksMore j (x .blocks))) e ∙ rw going refl;
     }
 
 -- what a memorandum says, of digests that were worked
@@ -212,7 +212,7 @@ module _ (secret m : Dig) where
 
   one-by : (b d : Bool) (n k number : ℕ) (t : Memo)
       → let j : Judged = record { stopped = d; number = n; blocks = k } in
-      pick d j (record { stopped = opposite b; number = number; blocks = counted j (cost (memorandumForms sha256 t secret)) })
+      pick d j (record { stopped = opposite b; number = number; blocks = blocksMore j (cost (memorandumForms sha256 t secret)) })
       ≡ afterCheck j (one number t b)
   unfolding afterCheck
   one-by b true n k number t = refl
@@ -225,7 +225,7 @@ module _ (secret m : Dig) where
   compared-as j number {s} {t} p =
       ap
       (λ (d : Digest).
-      pick (j .stopped) j (record { stopped = opposite (same (d .bytes) m); number = number; blocks = counted j (d .blocks) }))
+      pick (j .stopped) j (record { stopped = opposite (same (d .bytes) m); number = number; blocks = blocksMore j (d .blocks) }))
       (made-of p secret)
       ∙ one-by (same (memorandum sha256 t secret) m) (j .stopped) (j .number) (j .blocks) number t
 
@@ -277,7 +277,7 @@ module _ {s : Registers} {j : Judged} {first : ℕ} {after : Registers} {lists :
   unfolding ending
   finished-stopped e = record { is = rw e refl }
 
-  pub finished-going : {k : ℕ} → j .stopped ≡ false → k ≡ counted j (cost forms)
+  pub finished-going : {k : ℕ} → j .stopped ≡ false → k ≡ blocksMore j (cost forms)
       → Finished s j first after lists forms (acceptance after first lists k)
   unfolding ending
   finished-going e h = record { is = rw (e, h) refl }
@@ -304,7 +304,7 @@ issues-it {r} {j} {first} i p =
           i .is
           ∙ ap
           (λ (d : Digest).
-          pick (j .stopped) (refusal r (j .number) (j .blocks)) (acceptance r first (d .bytes) (counted j (d .blocks))))
+          pick (j .stopped) (refusal r (j .number) (j .blocks)) (acceptance r first (d .bytes) (blocksMore j (d .blocks))))
           (made-of p (r .secret));
     }
 
@@ -385,7 +385,7 @@ module _ (s : Registers) (first : ℕ) (after : Registers) (lists : List ℕ) (f
       → Ends (afterChecks j l) (walk l fs)
   ends [] fs j e h = finished-going e (ap (λ (x : ℕ). (x + cost forms) % 2 ^ 64) (sym h))
   ends (c ∷ l) fs j e h =
-      let n : cost (c .forms ++ fs) % 2 ^ 64 ≡ counted j (cost (c .forms)) = omega (arith, h, cost-append (c .forms) fs) in
+      let n : cost (c .forms ++ fs) % 2 ^ 64 ≡ blocksMore j (cost (c .forms)) = omega (arith, h, cost-append (c .forms) fs) in
       ends-at (ends-by c l fs (c .fails) (λ k f g. ends l (c .forms ++ fs) k f g))
       (ap (λ (x : Judged). afterChecks x l) (sym (going {c = c} e n .is)))
 

@@ -23,19 +23,19 @@ abbrev pub unjudged : Judged
 unjudged = record { stopped = false; number = 0; blocks = 0 }
 
 -- so many blocks more
-abbrev pub counted : Judged → ℕ → ℕ
-counted j n = (j .blocks + n) % 2 ^ 64
+abbrev pub blocksMore : Judged → ℕ → ℕ
+blocksMore j n = (j .blocks + n) % 2 ^ 64
 
 -- a check made, unless one before it failed
 unfoldable pub afterCheck : Judged → Check → Judged
-afterCheck j c = pick (j .stopped) j (record { stopped = c .fails; number = c .number; blocks = counted j (cost (c .forms)) })
+afterCheck j c = pick (j .stopped) j (record { stopped = c .fails; number = c .number; blocks = blocksMore j (cost (c .forms)) })
 
 pub record Next (j : Judged) (c : Check) (k : Judged) : Type 0 where
   pub is : k ≡ afterCheck j c
 
 -- blocks worked, unless a check failed: as many as some strings cost
 unfoldable pub afterWork : Judged → ℕ → Judged
-afterWork j n = pick (j .stopped) j (record { stopped = false; number = j .number; blocks = counted j n })
+afterWork j n = pick (j .stopped) j (record { stopped = false; number = j .number; blocks = blocksMore j n })
 
 pub record Worked (j : Judged) (n : ℕ) (k : Judged) : Type 0 where
   pub is : k ≡ afterWork j n
@@ -57,7 +57,7 @@ pub record Ran (j : Judged) (l : List Check) (k : Judged) : Type 0 where
 -- the refusal of the check that failed, or an answer
 unfoldable pub ending : Registers → Judged → (first : ℕ) (after : Registers) (lists : List ℕ) (forms : List Str) → Outcome
 ending s j first after lists forms =
-    pick (j .stopped) (refusal s (j .number) (j .blocks)) (acceptance after first lists (counted j (cost forms)))
+    pick (j .stopped) (refusal s (j .number) (j .blocks)) (acceptance after first lists (blocksMore j (cost forms)))
 
 pub record Finished (s : Registers) (j : Judged) (first : ℕ) (after : Registers) (lists : List ℕ) (forms : List Str) (o : Outcome) : Type 0 where
   pub is : o ≡ ending s j first after lists forms
@@ -78,7 +78,7 @@ memoCheck number k ts m =
 unfoldable pub comparing : Judged → (number : ℕ) → Says → (secret m : Dig) → Judged
 comparing j number s k m =
     pick (j .stopped) j
-    (record { stopped = opposite (same (madeOf s k .bytes) m); number = number; blocks = counted j (madeOf s k .blocks) })
+    (record { stopped = opposite (same (madeOf s k .bytes) m); number = number; blocks = blocksMore j (madeOf s k .blocks) })
 
 pub record Compared (j : Judged) (number : ℕ) (s : Says) (secret m : Dig) (k : Judged) : Type 0 where
   pub is : k ≡ comparing j number s secret m
@@ -95,7 +95,7 @@ pub record ComparedEither (j : Judged) (s t : Says) (secret m : Dig) (k : Judged
 unfoldable pub issuing : Registers → Judged → (first : ℕ) → Says → Outcome
 issuing r j first s =
     let d = madeOf s (r .secret) in
-    pick (j .stopped) (refusal r (j .number) (j .blocks)) (acceptance r first (d .bytes) (counted j (d .blocks)))
+    pick (j .stopped) (refusal r (j .number) (j .blocks)) (acceptance r first (d .bytes) (blocksMore j (d .blocks)))
 
 pub record Issued (r : Registers) (j : Judged) (first : ℕ) (s : Says) (o : Outcome) : Type 0 where
   pub is : o ≡ issuing r j first s

@@ -30,7 +30,7 @@ use Rattle.runs.proofs.Live.{liveness}
 use Rattle.runs.proofs.Also.{also}
 use Rattle.session.specs.Replies.{toldOf, registersBehind}
 use Rattle.session.proofs.Whole.{registers-append}
-use Rattle.demands.specs.Demands.{Call, standing, Kept, turnsOf, OneReply, AsDefined, RepliedAlong, Holds, ByValue, InPlace, MeetsByValue, MeetsInPlace, Input, callsByValue, callsInPlace, spaced, inOrder, Demands}
+use Rattle.demands.specs.Demands.{Call, standing, Kept, turnsOfCalls, OneReply, AsDefined, RepliedAlong, Holds, ByValue, InPlace, MeetsByValue, MeetsInPlace, Input, callsByValue, callsInPlace, spaced, inOrder, Demands}
 
 -- ── one call ──
 
@@ -72,7 +72,7 @@ as-said-meets s line space = record { returned = refl; left = refl }
 
 -- ── calls one after the other ──
 
-along : (k : Dig) (cs : List Call) → Kept k cs → standing k cs ≡ after sha256 k (turnsOf cs) .registers
+along : (k : Dig) (cs : List Call) → Kept k cs → standing k cs ≡ after sha256 k (turnsOfCalls cs) .registers
 along k [] h = refl
 along k (c ∷ cs) h =
     ap (λ (x : Answered). x .registers) (h .0 .returned)
@@ -93,9 +93,9 @@ holds k cs h =
     record {
       registers = e;
       replies = replied k cs h;
-      safe = safety .at-sha256 k (turnsOf cs);
+      safe = safety .at-sha256 k (turnsOfCalls cs);
       live = λ o b.
-          liveness .at-sha256 .after-runs k (turnsOf cs) (subst (λ (s : Registers). s .opened ≡ true) e o)
+          liveness .at-sha256 .after-runs k (turnsOfCalls cs) (subst (λ (s : Registers). s .opened ≡ true) e o)
           (subst (λ (s : Registers). s .counter .0 < top) e b);
     }
 

@@ -19,7 +19,7 @@ use Rattle.module.specs.declared.Answered.{Answered}
 use Rattle.module.specs.declared.Replied.{Replied}
 use Rattle.module.specs.Answering.{answered, answeredOf}
 use Rattle.module.specs.Laws.{Promised, RefusalIsFirst, RefusalKeeps, OnlyTheReply, ReplyFits, UnderTheCeiling, Opens, RefusingBreaks, OlderMemorandum}
-use Rattle.runs.specs.Run.{Turn, after}
+use Rattle.runs.specs.Run.{LineTurn, after}
 use Rattle.runs.specs.Endings.{Ending}
 use Rattle.runs.specs.Safety.{Safe}
 use Rattle.runs.specs.Liveness.{AllGrantable, Live}
@@ -46,9 +46,9 @@ Kept k [] = Unit {0}
 Kept k (c ∷ cs) = Promised (standing k cs) (c .line) (c .space) (c .came) (c .left) × Kept k cs
 
 -- the lines of some calls, each with the length of its space
-abbrev pub turnsOf : List Call → List Turn
-turnsOf [] = []
-turnsOf (c ∷ cs) = record { line = c .line; space = length (c .space) } ∷ turnsOf cs
+abbrev pub turnsOfCalls : List Call → List LineTurn
+turnsOfCalls [] = []
+turnsOfCalls (c ∷ cs) = record { line = c .line; space = length (c .space) } ∷ turnsOfCalls cs
 
 -- ── the first demand ──
 
@@ -97,19 +97,19 @@ pub record Second : Type 0 where
 abbrev pub RepliedAlong : (secret : Dig) → List Call → Type 0
 RepliedAlong k [] = Unit {0}
 RepliedAlong k (c ∷ cs) =
-    let told = answerTo sha256 (after sha256 k (turnsOf cs) .registers) (c .line) (length (c .space)) in
+    let told = answerTo sha256 (after sha256 k (turnsOfCalls cs) .registers) (c .line) (length (c .space)) in
     (c .came ≡ answeredOf told) × (c .left ≡ spaceAfter told (c .space)) × RepliedAlong k cs
 
 -- "Start from an unopened module and feed any lines. After each ..", until something one can show
 pub record Holds (k : Dig) (cs : List Call) : Type 0 where
   -- the registers are those of the run of these lines, and so are the replies
-  pub registers : standing k cs ≡ after sha256 k (turnsOf cs) .registers
+  pub registers : standing k cs ≡ after sha256 k (turnsOfCalls cs) .registers
   pub replies : RepliedAlong k cs
   -- the root is that of a tree that holds just the replayed list, the counter counts, every answer was true and every change legal
-  pub safe : Ending sha256 k (turnsOf cs) ⊎ Safe sha256 k (turnsOf cs)
+  pub safe : Ending sha256 k (turnsOfCalls cs) ⊎ Safe sha256 k (turnsOfCalls cs)
   -- "once open and while the counter is below its top", every legal change and every question has honest lines
   pub live : standing k cs .opened ≡ true → standing k cs .counter .0 < top
-      → Ending sha256 k (turnsOf cs) ⊎ Live sha256 (after sha256 k (turnsOf cs))
+      → Ending sha256 k (turnsOfCalls cs) ⊎ Live sha256 (after sha256 k (turnsOfCalls cs))
 
 -- a function on registers by value, and one on registers where they lie, which leaves registers beside what it returns; each leaves
 -- a reply space
@@ -151,7 +151,7 @@ callsInPlace m k [] = []
 callsInPlace m k (i ∷ is) = callInPlace m (standing k (callsInPlace m k is)) i ∷ callsInPlace m k is
 
 -- lines as a session feeds them, the latest first, each with room for its reply
-abbrev pub spaced : List (List ℕ) → List Turn
+abbrev pub spaced : List (List ℕ) → List LineTurn
 spaced [] = []
 spaced (l ∷ ls) = record { line = l; space = replyRoom } ∷ spaced ls
 

@@ -17,7 +17,7 @@ use Rattle.paper.proofs.Verdicts.{firstOf, refusal-first, first-given, first-on
 use Rattle.lines.specs.declared.Read.the-variants.{Frame, Refused}
 use Rattle.lines.specs.declared.Wrote.the-variants.{Line, Rejected}
 use Rattle.lines.specs.Reading.{readOf, wroteOf}
-use Rattle.lines.specs.Laws.{FirstGiven, ReadIsFirst, WriteIsFirst}
+use Rattle.lines.specs.Laws.{FirstOfFour, ReadIsFirst, WriteIsFirst}
 
 -- 0 is none of the numbers
 found : (n : ℕ) (before behind : List ℕ) → among n (before ++ (n ∷ behind)) ≡ true
@@ -37,7 +37,7 @@ module _ {A : Type 0} (accepts : A) (refuses : ℕ → A) (cs : List Check) wher
   by-first : (n : ℕ) → FirstToApply lineOrder cs n → chosen n ≡ refuses n
   by-first n f = rw (ne-eqb n 0 (not-zero cs n f)) refl
 
-  first-by : (r : A) → r ≡ chosen (firstOf lineOrder cs) → FirstGiven accepts refuses cs r
+  first-by : (r : A) → r ≡ chosen (firstOf lineOrder cs) → FirstOfFour accepts refuses cs r
   first-by r e =
       record {
         given = either-way (first-given lineOrder cs);

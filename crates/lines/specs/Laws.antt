@@ -27,7 +27,7 @@ pub record WritePromised (frame space : List ℕ) (r : Wrote) (after : List ℕ)
 
 -- An answer is the accepting one exactly when none of 1, 2, 3 and 15 applies, and else the refusal by the first of them,
 -- in this order, that applies.
-pub record FirstGiven {A : Type 0} (accepts : A) (refuses : ℕ → A) (cs : List Check) (r : A) : Type 0 where
+pub record FirstOfFour {A : Type 0} (accepts : A) (refuses : ℕ → A) (cs : List Check) (r : A) : Type 0 where
   pub given : (Passed lineOrder cs × (r ≡ accepts)) ⊎ ((n : ℕ) × FirstToApply lineOrder cs n × (r ≡ refuses n))
   pub refused-when : (n : ℕ) → FirstToApply lineOrder cs n → r ≡ refuses n
   pub accepted-when : Passed lineOrder cs → r ≡ accepts
@@ -35,10 +35,10 @@ pub record FirstGiven {A : Type 0} (accepts : A) (refuses : ℕ → A) (cs : Lis
 -- "Reading a line into frame space refuses 1, 2, 3 as below, then 15 if the space is shorter than the frame"
 abbrev pub ReadIsFirst : Type 0
 ReadIsFirst = (line space after : List ℕ) (r : Read) → ReadPromised line space r after
-    → FirstGiven (Frame (kindOf (bytesOf line)) (length (bytesOf line))) (λ n. Refused n) (readChecks line (length space)) r
+    → FirstOfFour (Frame (kindOf (bytesOf line)) (length (bytesOf line))) (λ n. Refused n) (readChecks line (length space)) r
 
 -- "Writing a frame refuses, in this order ..: empty or longer than that 1, then 2 and 3 as below, then 15 if the space is
 -- shorter than the line"
 abbrev pub WriteIsFirst : Type 0
 WriteIsFirst = (frame space after : List ℕ) (r : Wrote) → WritePromised frame space r after
-    → FirstGiven (Line (2 * length frame + 1)) (λ n. Rejected n) (writeChecks frame (length space)) r
+    → FirstOfFour (Line (2 * length frame + 1)) (λ n. Rejected n) (writeChecks frame (length space)) r

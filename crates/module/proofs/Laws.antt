@@ -32,7 +32,7 @@ use Rattle.replies.specs.declared.Outcome.{Outcome}
 use Rattle.replies.specs.Outcomes.{outcomeOf, refusal}
 use Rattle.kernel.specs.Fitting.{answerFitting}
 use Rattle.kernel.proofs.Frames.{frame-refused, frame-sound, frame-answered}
-use Rattle.module.specs.Work.{numberOf}
+use Rattle.module.specs.Work.{refusalIn}
 
 -- ── checks 15 and 1, before those of the frame ──
 
@@ -83,8 +83,8 @@ module _ (line : List ℕ) where
       read-by line longestFrame ∙ rw (e, le-ltb longestFrame (length (bytesOf line)) (short e)) refl ∙ sym (frame-by (bytesOf line))
 
 -- what is found tells the refusal
-number-by : (k l m : ℕ) (b : Bool) → eqb m 0 ≡ b → numberOf (pick b (Frame k l) (Refused m)) ≡ m
-unfolding numberOf
+number-by : (k l m : ℕ) (b : Bool) → eqb m 0 ≡ b → refusalIn (pick b (Frame k l) (Refused m)) ≡ m
+unfolding refusalIn
 number-by k l m true e = sym (eqb-true m 0 e)
 number-by k l m false e = refl
 
@@ -110,14 +110,14 @@ module _ (s : Registers) (line : List ℕ) where
   refused-line false h m e z =
       frame-refused s (bytesOf line) m (e ∙ read-own line h) z ∙ sym (ap outcomeOf (is-hex s line h))
 
-  pub line-refused : (got : Read) → got ≡ readOf line longestFrame → tagOf the-type got ≡ 1 → (m : ℕ) → m ≡ numberOf got
+  pub line-refused : (got : Read) → got ≡ readOf line longestFrame → tagOf the-type got ≡ 1 → (m : ℕ) → m ≡ refusalIn got
       → refusal s m 0 ≡ outcomeOf (answerTo sha256 s line replyRoom)
   unfolding readOf
   line-refused got e t m h =
       let i : ℕ = readRefusal line longestFrame in
       let k = kindOf (bytesOf line) in
       let l = length (bytesOf line) in
-      let r = h ∙ ap numberOf e ∙ number-by k l i (eqb i 0) refl in
+      let r = h ∙ ap refusalIn e ∙ number-by k l i (eqb i 0) refl in
       refused-line (isHex line .fails) refl m r
       (λ z. refused-by k l i (eqb i 0) refl (ap (tagOf the-type) (sym e) ∙ t) (sym r ∙ z))
 

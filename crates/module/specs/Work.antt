@@ -4,6 +4,6 @@ use Rattle.lines.specs.declared.Read.{Read}
 use Rattle.lines.specs.declared.Read.the-variants.{Frame, Refused}
 
 -- the number of a refusal, 0 where there is none
-unfoldable pub numberOf : Read → ℕ
-numberOf (Frame k n) = 0
-numberOf (Refused n) = n
+unfoldable pub refusalIn : Read → ℕ
+refusalIn (Frame k n) = 0
+refusalIn (Refused n) = n

@@ -11,7 +11,7 @@ ghost use Rattle.paper.specs.Module.{answerTo};
 ghost use Rattle.replies.specs.Outcomes.{outcomeOf};
 ghost use Rattle.module.specs.Answering.{answered};
 ghost use Rattle.module.specs.Laws.{Promised};
-ghost use Rattle.module.specs.Work.{numberOf};
+ghost use Rattle.module.specs.Work.{refusalIn};
 
 // What a line came to: the registers after it, the number of its refusal or 0, how many bytes of the reply space are
 // its reply, and the blocks worked.
@@ -32,7 +32,7 @@ pub struct Replied {
 
 // The number of a refusal by the reader.
 fn number(got: Read) -> u8
-    ensures { λ r. ⌜ r ≡ numberOf got ⌝ }
+    ensures { λ r. ⌜ r ≡ refusalIn got ⌝ }
 {
     match got {
         Read::Refused(n) => n,

@@ -20,18 +20,18 @@ use Rattle.paper.specs.Refusals.{nextRecord, clearedRecord}
 
 -- what an issued memorandum stands for: "first adds an empty item; place removes one; swap does nothing; turn
 -- does the reverse of what its memorandum stands for; chain does both in order"
-pub data Change : Type 0 where
-  nothing : Change
-  adds : (A : ℕ) → Change
-  removes : (A : ℕ) → Change
-  reverses : (m : Dig) → Change
-  both : (m1 m2 : Dig) → Change
+pub data ListChange : Type 0 where
+  nothing : ListChange
+  adds : (A : ℕ) → ListChange
+  removes : (A : ℕ) → ListChange
+  reverses : (m : Dig) → ListChange
+  bothInOrder : (m1 m2 : Dig) → ListChange
 
 -- nothing; "a line issues the memorandum its reply lists"; adopt does what its memorandum stands for; "set and
 -- clear change one record"
 pub data Effect : Type 0 where
   none′ : Effect
-  issues : Memo → Change → Effect
+  issues : Memo → ListChange → Effect
   adopts : (m : Dig) → Effect
   changes : (A : ℕ) → Record → Effect
 
@@ -90,7 +90,7 @@ pub record Answer : Type 0 where
 
 module _ (D : List ℕ → Dig) where
   -- an answer that lists some digests and then the memorandum that it issues
-  abbrev pub issue : Registers → (shown : List ℕ) (before : List Str) → Memo → Change → Answer
+  abbrev pub issue : Registers → (shown : List ℕ) (before : List Str) → Memo → ListChange → Answer
   issue s shown before t c =
       record {
         lists = shown ++ memorandum D t (s .secret);
@@ -113,7 +113,7 @@ module _ (D : List ℕ → Dig) where
   answer s (first A) = issue s [] (leaf A A nought ∷ []) (ei nought (digest D (leaf A A nought))) (adds A)
   answer s (place A A′ B′ ω y y′ m) = issue s [] [] (ei y y′) (removes A′)
   answer s (turn x y m) = issue s [] [] (ei y x) (reverses m)
-  answer s (chain x y m1 z m2) = issue s [] [] (ei x z) (both m1 m2)
+  answer s (chain x y m1 z m2) = issue s [] [] (ei x z) (bothInOrder m1 m2)
   answer s (adopt y y′ m) = record { lists = y′; after = rooted s y′; forms = []; effect = adopts m }
   answer s (setTo A A′ old v y y′ m) =
       record {

@@ -29,68 +29,68 @@ four a b c d =
 
 -- a row: what is looked at, and what 01 says of it
 pub data Row : Type 0 where
-  gap : (A A′ q : ℕ) → (lies : Bool) → Row
-  parent : (u v : Dig) → (above : Dig) → Row
-  hash : Record → Dig → Row
-  bad : Record → (is : Bool) → Row
-  count : (bytes : ℕ) → (many : ℕ) → Row
-  bytes : Str → (long : ℕ) → Row
-  constant : (defined written : ℕ) → Row
+  gapRow : (A A′ q : ℕ) → (lies : Bool) → Row
+  parentRow : (u v : Dig) → (above : Dig) → Row
+  hashRow : Record → Dig → Row
+  malformedRow : Record → (is : Bool) → Row
+  blocksRow : (bytes : ℕ) → (many : ℕ) → Row
+  lengthRow : Str → (long : ℕ) → Row
+  constantRow : (defined written : ℕ) → Row
 
-abbrev pub Says : (D : List ℕ → Dig) → Row → Type 0
-Says D (gap A A′ q lies) = inGap q A A′ ≡ lies
-Says D (parent u v w) = H D u v ≡ w
-Says D (hash r d) = recordHash D r ≡ d
-Says D (bad r is) = malformed r ≡ is
-Says D (count n k) = blocks n ≡ k
-Says D (bytes s n) = lengthOf s ≡ n
-Says D (constant n k) = n ≡ k
+abbrev pub RowSays : (D : List ℕ → Dig) → Row → Type 0
+RowSays D (gapRow A A′ q lies) = inGap q A A′ ≡ lies
+RowSays D (parentRow u v w) = H D u v ≡ w
+RowSays D (hashRow r d) = recordHash D r ≡ d
+RowSays D (malformedRow r is) = malformed r ≡ is
+RowSays D (blocksRow n k) = blocks n ≡ k
+RowSays D (lengthRow s n) = lengthOf s ≡ n
+RowSays D (constantRow n k) = n ≡ k
 
 -- the table, for any u
 abbrev pub table : (u : Dig) → List Row
 table u =
     -- "Gap 432, 562 (001): 500 yes*, 432 no*, 562 no*."
-    gap 432 562 500 true
-    ∷ gap 432 562 432 false
-    ∷ gap 432 562 562 false
+    gapRow 432 562 500 true
+    ∷ gapRow 432 562 432 false
+    ∷ gapRow 432 562 562 false
     -- "Gap 796, 241: 900 yes*, 100 yes*, 500 no*."
-    ∷ gap 796 241 900 true
-    ∷ gap 796 241 100 true
-    ∷ gap 796 241 500 false
+    ∷ gapRow 796 241 900 true
+    ∷ gapRow 796 241 100 true
+    ∷ gapRow 796 241 500 false
     -- "Gap 241, 241: 5 yes*, 241 no*."
-    ∷ gap 241 241 5 true
-    ∷ gap 241 241 241 false
+    ∷ gapRow 241 241 5 true
+    ∷ gapRow 241 241 241 false
     -- "H(0,0) is 0*; H(u,0) is u*."
-    ∷ parent nought nought nought
-    ∷ parent u nought u
+    ∷ parentRow nought nought nought
+    ∷ parentRow u nought u
     -- "Record [0,0,0,0] hashes to 0*; [0,5,0,0] is malformed*."
-    ∷ hash (four 0 0 0 0) nought
-    ∷ bad (four 0 5 0 0) true
+    ∷ hashRow (four 0 0 0 0) nought
+    ∷ malformedRow (four 0 5 0 0) true
     -- "Blocks: 55 bytes 1*, 56 bytes 2*, 65 bytes 2, 161 bytes 3, 225 bytes 4."
-    ∷ count 55 1
-    ∷ count 56 2
-    ∷ count 65 2
-    ∷ count 161 3
-    ∷ count 225 4
+    ∷ blocksRow 55 1
+    ∷ blocksRow 56 2
+    ∷ blocksRow 65 2
+    ∷ blocksRow 161 3
+    ∷ blocksRow 225 4
     -- the column "length" of the table of strings
-    ∷ bytes (leaf 0 0 u) 49
-    ∷ bytes (node u u) 65
-    ∷ bytes (entry (four 0 0 0 0)) 33
-    ∷ bytes (memo (u1 u u u u) u) 161
-    ∷ bytes (memo (v1 u u) u) 97
-    ∷ bytes (memo (u2 u u u u u u) u) 225
-    ∷ bytes (memo (ei u u) u) 97
+    ∷ lengthRow (leaf 0 0 u) 49
+    ∷ lengthRow (node u u) 65
+    ∷ lengthRow (entry (four 0 0 0 0)) 33
+    ∷ lengthRow (memo (u1 u u u u) u) 161
+    ∷ lengthRow (memo (v1 u u) u) 97
+    ∷ lengthRow (memo (u2 u u u u u u) u) 225
+    ∷ lengthRow (memo (ei u u) u) 97
     -- "The longest frame has 2,122 bytes, so 4,244 digits."; "c at 2^64 - 1"
-    ∷ constant longestFrame 2122
-    ∷ constant longestLine 4244
-    ∷ constant top 18446744073709551615
+    ∷ constantRow longestFrame 2122
+    ∷ constantRow longestLine 4244
+    ∷ constantRow top 18446744073709551615
     -- "from (5,10) one could insert 20": 20 is not in their gap
-    ∷ gap 5 10 20 false
+    ∷ gapRow 5 10 20 false
     ∷ []
 
 abbrev pub EveryRow : (D : List ℕ → Dig) → List Row → Type 0
 EveryRow D [] = Unit {0}
-EveryRow D (r ∷ l) = Says D r × EveryRow D l
+EveryRow D (r ∷ l) = RowSays D r × EveryRow D l
 
 -- "A path of 64 may cost 259": it does where no digest carried and no digest formed on the way up is zero, whatever the sides
 abbrev pub NoneZero : List Dig → Type 0
@@ -129,8 +129,8 @@ pub record EdgesOf65 (D : List ℕ → Dig) (s : Registers) (l : List ℕ) : Typ
 -- "Whole run, where S is 64 digits of alternating 0 and 1 (0101..01) and Z is 64 digits 0."
 
 -- a line in and the line out for it, without its 0A
-pub data Turn : Type 0 where
-  turn : (line reply : List ℕ) → Turn
+pub data Exchange : Type 0 where
+  gets : (line reply : List ℕ) → Exchange
 
 abbrev S : List ℕ
 S = replicate 32 0x01
@@ -138,27 +138,27 @@ S = replicate 32 0x01
 abbrev five : List ℕ
 five = 0 ∷ 0 ∷ 0 ∷ 0 ∷ 0 ∷ 0 ∷ 0 ∷ 5 ∷ []
 
-abbrev pub wholeRun : List Turn
+abbrev pub wholeRun : List Exchange
 wholeRun =
     -- `7`, `0001`; `ff`, `0002`; `0f`, `0003`
-    turn (0x37 ∷ []) (digitsOf (0x00 ∷ 0x01 ∷ []))
-    ∷ turn (digitsOf (0xff ∷ [])) (digitsOf (0x00 ∷ 0x02 ∷ []))
-    ∷ turn (digitsOf (0x0f ∷ [])) (digitsOf (0x00 ∷ 0x03 ∷ []))
+    gets (0x37 ∷ []) (digitsOf (0x00 ∷ 0x01 ∷ []))
+    ∷ gets (digitsOf (0xff ∷ [])) (digitsOf (0x00 ∷ 0x02 ∷ []))
+    ∷ gets (digitsOf (0x0f ∷ [])) (digitsOf (0x00 ∷ 0x03 ∷ []))
     -- `0f0000000000000005`, `000d`
-    ∷ turn (digitsOf (0x0f ∷ five)) (digitsOf (0x00 ∷ 0x0d ∷ []))
+    ∷ gets (digitsOf (0x0f ∷ five)) (digitsOf (0x00 ∷ 0x0d ∷ []))
     -- `10`Z, `000c`; `10`S, `90`; `10`Z, `000e`
-    ∷ turn (digitsOf (0x10 ∷ nought)) (digitsOf (0x00 ∷ 0x0c ∷ []))
-    ∷ turn (digitsOf (0x10 ∷ S)) (digitsOf (0x90 ∷ []))
-    ∷ turn (digitsOf (0x10 ∷ nought)) (digitsOf (0x00 ∷ 0x0e ∷ []))
+    ∷ gets (digitsOf (0x10 ∷ nought)) (digitsOf (0x00 ∷ 0x0c ∷ []))
+    ∷ gets (digitsOf (0x10 ∷ S)) (digitsOf (0x90 ∷ []))
+    ∷ gets (digitsOf (0x10 ∷ nought)) (digitsOf (0x00 ∷ 0x0e ∷ []))
     -- `0f0000000000000005`, `8f0000000000000005`; `070000000000000000`, `0004`
-    ∷ turn (digitsOf (0x0f ∷ five)) (digitsOf (0x8f ∷ five))
-    ∷ turn (digitsOf (0x07 ∷ replicate 8 0)) (digitsOf (0x00 ∷ 0x04 ∷ []))
+    ∷ gets (digitsOf (0x0f ∷ five)) (digitsOf (0x8f ∷ five))
+    ∷ gets (digitsOf (0x07 ∷ replicate 8 0)) (digitsOf (0x00 ∷ 0x04 ∷ []))
     ∷ []
 
 -- each line gets its reply, from some registers on, with 195 bytes of space
-abbrev pub Runs : (D : List ℕ → Dig) → Registers → List Turn → Type 0
+abbrev pub Runs : (D : List ℕ → Dig) → Registers → List Exchange → Type 0
 Runs D s [] = Unit {0}
-Runs D s (turn line reply ∷ l) =
+Runs D s (gets line reply ∷ l) =
     (replyLine (answerTo D s line replyRoom) ≡ reply ++ (0x0a ∷ [])) × Runs D (answerTo D s line replyRoom .after) l
 
 pub record ByHand : Type 1 where

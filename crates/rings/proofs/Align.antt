@@ -8,7 +8,7 @@ use Prim.Native.Nat.{ℕ, _+_}
 use native.Mathlib.Omega.{arith}
 use Rattle.paper.specs.Strings.{Dig, nought, Str, node}
 use Rattle.rings.specs.Trees.{Leaf, points, Tree, empty, tip, branch, leaves, count}
-use Rattle.rings.specs.Meanings.{_∈_, Within, Sibling, left, right, above, NodeIn, fold, PathIn, fold-two, PathsIn, hash, TreeIn, Fault, vanishes}
+use Rattle.rings.specs.Meanings.{_∈_, Within, Sibling, left, right, above, NodeIn, fold, PathIn, fold-two, PathsIn, hashOfTree, TreeIn, Fault, vanishes}
 use Rattle.rings.proofs.Counting.{count-nil, count-append}
 use Rattle.rings.proofs.Nodes.{Dig-discrete, above-right-0, above-left-0, above-node, _>>=_, same-string, no-leaf}
 
@@ -19,14 +19,14 @@ module _ (D : Str → Dig) where
   pub record Split (F : List Str) (a b : Dig) (L : List Leaf) : Type 0 where
     pub l : Tree
     pub r : Tree
-    pub hash-l : hash D l ≡ a
-    pub hash-r : hash D r ≡ b
+    pub hash-l : hashOfTree D l ≡ a
+    pub hash-r : hashOfTree D r ≡ b
     pub in-l : TreeIn D F l
     pub in-r : TreeIn D F r
     pub cut : (x : Leaf) → count x L ≡ count x (leaves l) + count x (leaves r)
 
   -- a tree is, up to empty parts, such a node; where one half is empty, the other splits
-  split-node : {F : List Str} (T : Tree) (a b : Dig) → node a b ∈ F → D (node a b) ≡ hash D T → TreeIn D F T
+  split-node : {F : List Str} (T : Tree) (a b : Dig) → node a b ∈ F → D (node a b) ≡ hashOfTree D T → TreeIn D F T
       → Fault D F ⊎ Split F a b (leaves T)
   split-node empty a b m e i = inl (vanishes (node a b) m e)
   split-node (tip (points a′ b′ w′)) a b m e i = do
@@ -34,18 +34,18 @@ module _ (D : Str → Dig) where
     let z : _≡_ {A = ℕ} 0 1 = cc
     absurd (omega arith)
   split-node (branch l r) a b m e i =
-      elim (Dig-discrete (hash D l) nought) [
+      elim (Dig-discrete (hashOfTree D l) nought) [
         | yes p ↦ (do
           u ← no-leaf D l p (i .0)
-          s ← split-node r a b m (e ∙ above-left-0 D (hash D l) (hash D r) p) (i .1)
+          s ← split-node r a b m (e ∙ above-left-0 D (hashOfTree D l) (hashOfTree D r) p) (i .1)
           inr (rw u s))
-        | no n ↦ elim (Dig-discrete (hash D r) nought) [
+        | no n ↦ elim (Dig-discrete (hashOfTree D r) nought) [
           | yes q ↦ (do
             u ← no-leaf D r q (i .1)
-            s ← split-node l a b m (e ∙ above-right-0 D (hash D l) (hash D r) q) (i .0)
+            s ← split-node l a b m (e ∙ above-right-0 D (hashOfTree D l) (hashOfTree D r) q) (i .0)
             inr (rw (u, append-nil) s))
           | no k ↦ (do
-            p ← same-string D m (i .2 n k) (e ∙ above-node D (hash D l) (hash D r) n k)
+            p ← same-string D m (i .2 n k) (e ∙ above-node D (hashOfTree D l) (hashOfTree D r) n k)
             inr (record {
               l = l;
               r = r;
@@ -58,7 +58,7 @@ module _ (D : Str → Dig) where
         ]
       ]
 
-  pub split : {F : List Str} (T : Tree) (a b : Dig) → NodeIn D F a b → above D a b ≡ hash D T → TreeIn D F T
+  pub split : {F : List Str} (T : Tree) (a b : Dig) → NodeIn D F a b → above D a b ≡ hashOfTree D T → TreeIn D F T
       → Fault D F ⊎ Split F a b (leaves T)
   split T a b m e i =
       elim (Dig-discrete b nought) [
@@ -105,21 +105,21 @@ module _ (D : Str → Dig) where
   -- a tree of hash y with given leaves
   pub record Made (F : List Str) (y : Dig) (has : Leaf → ℕ) : Type 0 where
     pub tree : Tree
-    pub tree-hash : hash D tree ≡ y
+    pub tree-hash : hashOfTree D tree ≡ y
     pub tree-in : TreeIn D F tree
     pub holds : (z : Leaf) → count z (leaves tree) ≡ has z
 
   -- T is a part of hash x under the path p, with the leaves `rest` beside it; another part may be put there
   pub record Hole (F : List Str) (p : List Sibling) (x : Dig) (T : Tree) : Type 0 where
     pub part : Tree
-    pub part-hash : hash D part ≡ x
+    pub part-hash : hashOfTree D part ≡ x
     pub part-in : TreeIn D F part
     pub rest : List Leaf
     pub cut : (z : Leaf) → count z (leaves T) ≡ count z (leaves part) + count z rest
-    pub fill : (Y : Tree) (y : Dig) → hash D Y ≡ y → TreeIn D F Y → PathIn D F p y
+    pub fill : (Y : Tree) (y : Dig) → hashOfTree D Y ≡ y → TreeIn D F Y → PathIn D F p y
         → Made F (fold D p y) (λ z. count z (leaves Y) + count z rest)
 
-  pub align : {F : List Str} (p : List Sibling) (x : Dig) (T : Tree) → fold D p x ≡ hash D T → TreeIn D F T → PathIn D F p x
+  pub align : {F : List Str} (p : List Sibling) (x : Dig) (T : Tree) → fold D p x ≡ hashOfTree D T → TreeIn D F T → PathIn D F p x
       → Fault D F ⊎ Hole F p x T
   align [] x T e i j =
       inr (record {
@@ -183,16 +183,16 @@ module _ (D : Str → Dig) where
   pub record Two (F : List Str) (x₁ x₂ x₁′ x₂′ y′ : Dig) (T : Tree) : Type 0 where
     pub part₁ : Tree
     pub part₂ : Tree
-    pub hash₁ : hash D part₁ ≡ x₁
-    pub hash₂ : hash D part₂ ≡ x₂
+    pub hash₁ : hashOfTree D part₁ ≡ x₁
+    pub hash₂ : hashOfTree D part₂ ≡ x₂
     pub in₁ : TreeIn D F part₁
     pub in₂ : TreeIn D F part₂
     pub rest : List Leaf
     pub cut : (z : Leaf) → count z (leaves T) ≡ count z (leaves part₁) + count z (leaves part₂) + count z rest
-    pub fill : (Y₁ Y₂ : Tree) → hash D Y₁ ≡ x₁′ → hash D Y₂ ≡ x₂′ → TreeIn D F Y₁ → TreeIn D F Y₂
+    pub fill : (Y₁ Y₂ : Tree) → hashOfTree D Y₁ ≡ x₁′ → hashOfTree D Y₂ ≡ x₂′ → TreeIn D F Y₁ → TreeIn D F Y₂
         → Made F y′ (λ z. count z (leaves Y₁) + count z (leaves Y₂) + count z rest)
 
-  pub align-two : {F : List Str} (p₁ p₂ q : List Sibling) (x₁ x₂ x₁′ x₂′ : Dig) (T : Tree) → fold-two D p₁ p₂ q x₁ x₂ ≡ hash D T
+  pub align-two : {F : List Str} (p₁ p₂ q : List Sibling) (x₁ x₂ x₁′ x₂′ : Dig) (T : Tree) → fold-two D p₁ p₂ q x₁ x₂ ≡ hashOfTree D T
       → TreeIn D F T → PathsIn D F p₁ p₂ q x₁ x₂ → PathsIn D F p₁ p₂ q x₁′ x₂′
       → Fault D F ⊎ Two F x₁ x₂ x₁′ x₂′ (fold-two D p₁ p₂ q x₁′ x₂′) T
   align-two p₁ p₂ q x₁ x₂ x₁′ x₂′ T e i j k = do

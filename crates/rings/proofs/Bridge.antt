@@ -15,7 +15,7 @@ use Rattle.seqs.specs.Bytes.{allZero}
 use Rattle.paper.specs.declared.Record.{Record}
 use Rattle.paper.specs.Strings.{Dig, nought, emptyRecord, Str, entry, node, enc, numbers, blank, malformed, recordForms, parentForms, digest, recordHash, H}
 use Rattle.rings.specs.Trees.{points, Tree, empty, tip, branch, hashOf}
-use Rattle.rings.specs.Meanings.{Within, above, NodeIn, hash, Known, known-empty, known-recorded}
+use Rattle.rings.specs.Meanings.{Within, above, NodeIn, hashOfTree, Known, known-empty, known-recorded}
 use Rattle.rings.proofs.Nodes.{Dig-discrete, above-right-0, above-left-0, above-node}
 
 -- ── a digest that is 0 ──
@@ -127,7 +127,7 @@ module _ (D : List ℕ → Dig) where
     hash-32 (branch l r) = parent-32 (hashOf D l) (hashOf D r) (hash-32 l) (hash-32 r)
 
     -- the hash of a tree
-    pub hash-is : (T : Tree) → hashOf D T ≡ hash (digest D) T
+    pub hash-is : (T : Tree) → hashOf D T ≡ hashOfTree (digest D) T
     hash-is empty = refl
     hash-is (tip (points a b w)) = refl
     hash-is (branch l r) =

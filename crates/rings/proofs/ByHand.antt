@@ -5,26 +5,26 @@ use mathlib.Core.List.{List, [], _∷_}
 use Prim.Native.Nat.{ℕ}
 use Rattle.paper.specs.Strings.{Dig, nought, leaf, digest, H}
 use Rattle.rings.specs.Trees.{points, empty, tip, branch, leaves, hashOf}
-use Rattle.rings.specs.Lists.{Item, item, insert, remove, putRecord, ring}
+use Rattle.rings.specs.Lists.{ListItem, itemWith, insert, remove, putRecord, ring}
 
 module _ {R : Type 0} (h : R → Dig) (r s t : R) where
-  abbrev two : List (Item R)
-  two = item 432 r ∷ item 796 t ∷ []
+  abbrev two : List (ListItem R)
+  two = itemWith 432 r ∷ itemWith 796 t ∷ []
 
-  abbrev three : List (Item R)
-  three = item 432 r ∷ item 562 s ∷ item 796 t ∷ []
+  abbrev three : List (ListItem R)
+  three = itemWith 432 r ∷ itemWith 562 s ∷ itemWith 796 t ∷ []
 
   pub ring-of-three : ring h three ≡ points 432 562 (h r) ∷ points 562 796 (h s) ∷ points 796 432 (h t) ∷ []
   ring-of-three = refl
 
-  pub ring-of-one : ring h (item 241 r ∷ []) ≡ points 241 241 (h r) ∷ []
+  pub ring-of-one : ring h (itemWith 241 r ∷ []) ≡ points 241 241 (h r) ∷ []
   ring-of-one = refl
 
   pub inserted-between : insert 562 s two ≡ three
   unfolding insert
   inserted-between = refl
 
-  pub inserted-last : insert 796 t (item 432 r ∷ item 562 s ∷ []) ≡ three
+  pub inserted-last : insert 796 t (itemWith 432 r ∷ itemWith 562 s ∷ []) ≡ three
   unfolding insert
   inserted-last = refl
 
@@ -32,7 +32,7 @@ module _ {R : Type 0} (h : R → Dig) (r s t : R) where
   unfolding remove
   removed = refl
 
-  pub given-another : putRecord 562 t three ≡ item 432 r ∷ item 562 t ∷ item 796 t ∷ []
+  pub given-another : putRecord 562 t three ≡ itemWith 432 r ∷ itemWith 562 t ∷ itemWith 796 t ∷ []
   unfolding putRecord
   given-another = refl
 

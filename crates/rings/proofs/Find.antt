@@ -8,7 +8,7 @@ use native.Mathlib.Decide.{decLt}
 use native.Mathlib.Omega.{arith}
 use Rattle.paper.specs.Strings.{Dig}
 use Rattle.rings.specs.Trees.{Leaf, points, count}
-use Rattle.rings.specs.Lists.{Item, item, Ascending, Listed, Unlisted, chainOf, ring}
+use Rattle.rings.specs.Lists.{ListItem, itemWith, Ascending, OnList, Unlisted, chainOf, ring}
 use Rattle.rings.proofs.Counting.{count-head, count-tail}
 use Rattle.rings.proofs.Gaps.{Gap, between, beyond, before}
 
@@ -53,32 +53,32 @@ near-behind x t =
 module _ {R : Type 0} (h : R → Dig) where
   -- ── the leaf of a listed item ──
 
-  item-chain : (q : ℕ) (s : R) (a : ℕ) (r : R) (l : List (Item R)) (z : ℕ) → Listed q s (item a r ∷ l)
+  item-chain : (q : ℕ) (s : R) (a : ℕ) (r : R) (l : List (ListItem R)) (z : ℕ) → OnList q s (itemWith a r ∷ l)
       → (c : ℕ) × (0 < count (points q c (h s)) (chainOf h a r l z))
   item-chain q s a r [] z m =
       elim (List·Memᴰ·cases-cons m) [ inl e ↦ (z, count-head _ _ _ (cc)) | inr k ↦ elim k [ ] ]
-  item-chain q s a r (item b t ∷ l) z m =
+  item-chain q s a r (itemWith b t ∷ l) z m =
       elim (List·Memᴰ·cases-cons m) [
         | inl e ↦ (b, count-head _ _ _ (cc))
         | inr k ↦ (let u = item-chain q s b t l z k in (u .0, count-tail _ _ _ (u .1)))
       ]
 
-  pub item-leaf : (q : ℕ) (s : R) (ls : List (Item R)) → Listed q s ls
+  pub item-leaf : (q : ℕ) (s : R) (ls : List (ListItem R)) → OnList q s ls
       → (c : ℕ) × (0 < count (points q c (h s)) (ring h ls))
   item-leaf q s [] m = elim m [ ]
-  item-leaf q s (item a r ∷ l) m = item-chain q s a r l a m
+  item-leaf q s (itemWith a r ∷ l) m = item-chain q s a r l a m
 
   -- the last leaf of a chain
-  last-leaf : (a : ℕ) (r : R) (l : List (Item R)) (z : ℕ) → Ascending a l
+  last-leaf : (a : ℕ) (r : R) (l : List (ListItem R)) (z : ℕ) → Ascending a l
       → (p : ℕ) × (w : Dig) × (a ≤ p) × (0 < count (points p z w) (chainOf h a r l z))
   last-leaf a r [] z g = (a, h r, omega arith, count-head _ _ _ refl)
-  last-leaf a r (item b s ∷ l) z g =
+  last-leaf a r (itemWith b s ∷ l) z g =
       let t = last-leaf b s l z (g .1) in
       (t .0, t .1, omega (arith, g .0, t .2), count-tail _ _ _ (t .3))
 
   -- ── the leaf in whose gap an unlisted number lies ──
 
-  spot-chain : (q a : ℕ) (r : R) (l : List (Item R)) (z : ℕ) → z ≤ a → Ascending a l → a < q → Unlisted q l
+  spot-chain : (q a : ℕ) (r : R) (l : List (ListItem R)) (z : ℕ) → z ≤ a → Ascending a l → a < q → Unlisted q l
       → Spot q (chainOf h a r l z)
   spot-chain q a r [] z hz g k f =
       record {
@@ -88,7 +88,7 @@ module _ {R : Type 0} (h : R → Dig) where
         gap = beyond hz k;
         on = count-head _ _ _ refl;
       }
-  spot-chain q a r (item b s ∷ l) z hz g k f =
+  spot-chain q a r (itemWith b s ∷ l) z hz g k f =
       elim (decLt q b) [
         | yes j ↦ record {
           a = a;
@@ -100,8 +100,8 @@ module _ {R : Type 0} (h : R → Dig) where
         | no n ↦ spot-behind _ (spot-chain q b s l z (omega (arith, g .0)) (g .1) (omega (arith, f .0)) (f .1))
       ]
 
-  pub spot : (q a : ℕ) (r : R) (l : List (Item R)) → 0 < q → Ascending 0 (item a r ∷ l) → Unlisted q (item a r ∷ l)
-      → Spot q (ring h (item a r ∷ l))
+  pub spot : (q a : ℕ) (r : R) (l : List (ListItem R)) → 0 < q → Ascending 0 (itemWith a r ∷ l) → Unlisted q (itemWith a r ∷ l)
+      → Spot q (ring h (itemWith a r ∷ l))
   spot q a r l hq g f = go (decLt q a)
     where
       go : Dec (q < a) → Spot q (chainOf h a r l a)
@@ -118,16 +118,16 @@ module _ {R : Type 0} (h : R → Dig) where
 
   -- ── a listed item with its two leaves, where another item is listed too ──
 
-  near-chain : (q : ℕ) (s : R) (a : ℕ) (r : R) (l : List (Item R)) (z : ℕ) → z ≤ a → Ascending a l → Listed q s l
+  near-chain : (q : ℕ) (s : R) (a : ℕ) (r : R) (l : List (ListItem R)) (z : ℕ) → z ≤ a → Ascending a l → OnList q s l
       → Near q (h s) (chainOf h a r l z)
   near-chain q s a r [] z hz g m = elim m [ ]
-  near-chain q s a r (item b t ∷ l) z hz g m =
+  near-chain q s a r (itemWith b t ∷ l) z hz g m =
       elim (List·Memᴰ·cases-cons m) [
         | inl e ↦ here l (g .1) e
         | inr k ↦ near-behind _ (near-chain q s b t l z (omega (arith, g .0)) (g .1) k)
       ]
     where
-      here : (l : List (Item R)) → Ascending b l → item q s ≡ item b t
+      here : (l : List (ListItem R)) → Ascending b l → itemWith q s ≡ itemWith b t
           → Near q (h s) (points a b (h r) ∷ chainOf h b t l z)
       here [] k e =
           let p : q ≡ b = cc in
@@ -139,7 +139,7 @@ module _ {R : Type 0} (h : R → Dig) where
             on = count-head _ _ _ (cc);
             next = count-tail _ _ _ (count-head _ _ _ (cc));
           }
-      here (item c t′ ∷ l′) k e =
+      here (itemWith c t′ ∷ l′) k e =
           let p : q ≡ b = cc in
           record {
             a = a;
@@ -150,11 +150,11 @@ module _ {R : Type 0} (h : R → Dig) where
             next = count-tail _ _ _ (count-head _ _ _ (cc));
           }
 
-  pub near : (q : ℕ) (s : R) (a : ℕ) (r : R) (b : ℕ) (t : R) (l : List (Item R)) → Ascending 0 (item a r ∷ item b t ∷ l)
-      → Listed q s (item a r ∷ item b t ∷ l) → Near q (h s) (ring h (item a r ∷ item b t ∷ l))
+  pub near : (q : ℕ) (s : R) (a : ℕ) (r : R) (b : ℕ) (t : R) (l : List (ListItem R)) → Ascending 0 (itemWith a r ∷ itemWith b t ∷ l)
+      → OnList q s (itemWith a r ∷ itemWith b t ∷ l) → Near q (h s) (ring h (itemWith a r ∷ itemWith b t ∷ l))
   near q s a r b t l g m = go (List·Memᴰ·cases-cons m)
     where
-      go : (item q s ≡ item a r) ⊎ Listed q s (item b t ∷ l) → Near q (h s) (ring h (item a r ∷ item b t ∷ l))
+      go : (itemWith q s ≡ itemWith a r) ⊎ OnList q s (itemWith b t ∷ l) → Near q (h s) (ring h (itemWith a r ∷ itemWith b t ∷ l))
       go (inl e) =
           let p : q ≡ a = cc in
           let u = last-leaf b t l a (g .1 .1) in
@@ -167,4 +167,4 @@ module _ {R : Type 0} (h : R → Dig) where
             on = count-tail _ _ _ m′;
             next = count-head _ _ _ (cc);
           }
-      go (inr k) = near-chain q s a r (item b t ∷ l) a (omega arith) (g .1) k
+      go (inr k) = near-chain q s a r (itemWith b t ∷ l) a (omega arith) (g .1) k

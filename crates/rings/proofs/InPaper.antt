@@ -11,7 +11,7 @@ use Rattle.paper.specs.declared.Record.{Record}
 use Rattle.paper.specs.Strings.{Dig, nought, Str, leaf, malformed, inGap, recordForms, parentForms, digest, recordHash, H}
 use Rattle.paper.specs.Refusals.{placeForms, leafOf, leafForms, changeForms}
 use Rattle.rings.specs.Trees.{points, Tree, leaves, hashOf, Permuted}
-use Rattle.rings.specs.Lists.{Item, Listed, Unlisted, ring}
+use Rattle.rings.specs.Lists.{ListItem, OnList, Unlisted, ring}
 use Rattle.rings.specs.Changes.{Step, removal}
 use Rattle.rings.specs.Meanings.{_∈_, Within, MeansU1, MeansV1, MeansU2, hashRecord, Known, StandsFor, Fault, Moved, MeansEI}
 use Rattle.rings.proofs.Nodes.{_>>=_}
@@ -28,12 +28,12 @@ module _ (D : List ℕ → Dig) (D32 : (l : List ℕ) → length (D l) ≡ 32) (
   digestD = digest D
 
   -- what demand 3 says of the tree
-  pub holds-ring : {T : Tree} {ls : List (Item Record)} → StandsFor digestD F T ls → Permuted (leaves T) (ring (recordHash D) ls)
+  pub holds-ring : {T : Tree} {ls : List (ListItem Record)} → StandsFor digestD F T ls → Permuted (leaves T) (ring (recordHash D) ls)
   unfolding recordHash hashRecord
   holds-ring g = g .permuted
 
   -- the root settles the list
-  pub same-list : (T U : Tree) (l m : List (Item Record)) → hashOf D T ≡ hashOf D U → StandsFor digestD F T l
+  pub same-list : (T U : Tree) (l m : List (ListItem Record)) → hashOf D T ≡ hashOf D U → StandsFor digestD F T l
       → StandsFor digestD F U m → Fault digestD F ⊎ (l ≡ m)
   same-list T U l m e g h = S.same-list digestD T U l m (sym (hash-is D D32 T) ∙ e ∙ hash-is D D32 U) g h
 
@@ -60,7 +60,7 @@ module _ (D : List ℕ → Dig) (D32 : (l : List ℕ) → length (D l) ≡ 32) (
       elim u [ inl v ↦ R.place digestD A A′ B′ ω formed v | inr v ↦ R.place-flipped digestD A A′ B′ ω formed v ]
 
   -- 0b adopt: what its memorandum stands for is done, and was legal
-  pub adopt : {y y′ : Dig} {c : List Step} (T : Tree) (ls : List (Item Record)) → MeansEI digestD F y y′ c → hashOf D T ≡ y
+  pub adopt : {y y′ : Dig} {c : List Step} (T : Tree) (ls : List (ListItem Record)) → MeansEI digestD F y y′ c → hashOf D T ≡ y
       → StandsFor digestD F T ls → Fault digestD F ⊎ Moved digestD F y′ c ls
   adopt T ls m e g = m .forth F (λ s i. i) T ls (sym (hash-is D D32 T) ∙ e) g
 
@@ -72,7 +72,7 @@ module _ (D : List ℕ → Dig) (D32 : (l : List ℕ) → length (D l) ≡ 32) (
   formed A A′ r i = i _ (Memᴰ·append-right (recordForms r) (List·Memᴰ·head refl))
 
   -- 0c set, 0d clear
-  pub put : {y y′ : Dig} (A A′ : ℕ) (old new : Record) (T : Tree) (ls : List (Item Record)) → malformed old ≡ false
+  pub put : {y y′ : Dig} (A A′ : ℕ) (old new : Record) (T : Tree) (ls : List (ListItem Record)) → malformed old ≡ false
       → malformed new ≡ false → Within (changeForms D A A′ old new) F
       → MeansU1 digestD F (digestD (leafOf D A A′ old)) y (digestD (leafOf D A A′ new)) y′ → hashOf D T ≡ y
       → StandsFor digestD F T ls → Fault digestD F ⊎ L.Put digestD F y′ A old new ls
@@ -84,12 +84,12 @@ module _ (D : List ℕ → Dig) (D32 : (l : List ℕ) → length (D l) ≡ 32) (
       (sym (hash-is D D32 T) ∙ e) g
 
   -- 0e ask: the item has the record, no number in the gap is listed, and the leaf is one of the ring
-  abbrev pub Found : (A A′ : ℕ) → Record → List (Item Record) → Type 0
+  abbrev pub Found : (A A′ : ℕ) → Record → List (ListItem Record) → Type 0
   Found A A′ r ls =
-      Listed A r ls × ((q : ℕ) → inGap q A A′ ≡ true → Unlisted q ls)
+      OnList A r ls × ((q : ℕ) → inGap q A A′ ≡ true → Unlisted q ls)
       × List·Memᴰ (points A A′ (recordHash D r)) (ring (recordHash D) ls)
 
-  pub ask : {y : Dig} (A A′ : ℕ) (r : Record) (T : Tree) (ls : List (Item Record)) → malformed r ≡ false
+  pub ask : {y : Dig} (A A′ : ℕ) (r : Record) (T : Tree) (ls : List (ListItem Record)) → malformed r ≡ false
       → Within (leafForms D A A′ r) F → MeansV1 digestD F (digestD (leafOf D A A′ r)) y → hashOf D T ≡ y
       → StandsFor digestD F T ls → Fault digestD F ⊎ Found A A′ r ls
   unfolding recordHash hashRecord
@@ -98,6 +98,6 @@ module _ (D : List ℕ → Dig) (D32 : (l : List ℕ) → length (D l) ≡ 32) (
     inr (t .0, (λ q k. t .1 q (gap-holds q A A′ k)), t .2)
 
   -- 0f ask of none
-  pub ask-none : (T : Tree) (ls : List (Item Record)) → hashOf D T ≡ nought → StandsFor digestD F T ls
+  pub ask-none : (T : Tree) (ls : List (ListItem Record)) → hashOf D T ≡ nought → StandsFor digestD F T ls
       → Fault digestD F ⊎ (ls ≡ [])
   ask-none T ls e g = L.ask-none digestD T ls (sym (hash-is D D32 T) ∙ e) g

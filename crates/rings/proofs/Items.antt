@@ -10,131 +10,131 @@ use native.Mathlib.Omega.{arith}
 use borrow.Author.Tests.{ltb-true, ltb-false, eq-eqb}
 use lib.Dec.{eqb, ltb}
 use Rattle.seqs.specs.Choose.{pick}
-use Rattle.rings.specs.Lists.{Item, item, Ascending, Listed, Unlisted, insert, remove, putRecord}
+use Rattle.rings.specs.Lists.{ListItem, itemWith, Ascending, OnList, Unlisted, insert, remove, putRecord}
 use Rattle.rings.specs.Meanings.{AllRecords}
 
 module _ {R : Type 0} where
-  pub record-at : (P : R → Type 0) (l : List (Item R)) (a : ℕ) (r : R) → AllRecords P l → Listed a r l → P r
-  record-at P (item b s ∷ l) a r g (List·Memᴰ·head e) = let p : s ≡ r = cc in subst P p (g .0)
-  record-at P (item b s ∷ l) a r g (List·Memᴰ·tail m) = record-at P l a r (g .1) m
+  pub record-at : (P : R → Type 0) (l : List (ListItem R)) (a : ℕ) (r : R) → AllRecords P l → OnList a r l → P r
+  record-at P (itemWith b s ∷ l) a r g (List·Memᴰ·head e) = let p : s ≡ r = cc in subst P p (g .0)
+  record-at P (itemWith b s ∷ l) a r g (List·Memᴰ·tail m) = record-at P l a r (g .1) m
 
-  pub all-more : (P Q : R → Type 0) (l : List (Item R)) → ((r : R) → P r → Q r) → AllRecords P l → AllRecords Q l
+  pub all-more : (P Q : R → Type 0) (l : List (ListItem R)) → ((r : R) → P r → Q r) → AllRecords P l → AllRecords Q l
   all-more P Q [] f g = tt
-  all-more P Q (item a r ∷ l) f g = (f r (g .0), all-more P Q l f (g .1))
+  all-more P Q (itemWith a r ∷ l) f g = (f r (g .0), all-more P Q l f (g .1))
 
   -- ── above a number ──
 
-  ascending-from : {b c : ℕ} (l : List (Item R)) → c ≤ b → Ascending b l → Ascending c l
+  ascending-from : {b c : ℕ} (l : List (ListItem R)) → c ≤ b → Ascending b l → Ascending c l
   ascending-from [] h g = tt
-  ascending-from (item a r ∷ l) h g = (omega arith, g .1)
+  ascending-from (itemWith a r ∷ l) h g = (omega arith, g .1)
 
-  pub unlisted-below : (b q : ℕ) (l : List (Item R)) → q ≤ b → Ascending b l → Unlisted q l
+  pub unlisted-below : (b q : ℕ) (l : List (ListItem R)) → q ≤ b → Ascending b l → Unlisted q l
   unlisted-below b q [] h g = tt
-  unlisted-below b q (item a r ∷ l) h g = (omega arith, unlisted-below a q l (omega arith) (g .1))
+  unlisted-below b q (itemWith a r ∷ l) h g = (omega arith, unlisted-below a q l (omega arith) (g .1))
 
-  pub listed-above : (b q : ℕ) (r : R) (l : List (Item R)) → Ascending b l → Listed q r l → b < q
+  pub listed-above : (b q : ℕ) (r : R) (l : List (ListItem R)) → Ascending b l → OnList q r l → b < q
   listed-above b q r [] g m = elim m [ ]
-  listed-above b q r (item a s ∷ l) g m =
+  listed-above b q r (itemWith a s ∷ l) g m =
       elim (List·Memᴰ·cases-cons m) [
         | inl e ↦ (let p : q ≡ a = cc in omega (arith, g .0))
         | inr k ↦ omega (arith, g .0, listed-above a q r l (g .1) k)
       ]
 
   -- a number is listed or it is not
-  pub listed? : (q : ℕ) (l : List (Item R)) → Unlisted q l ⊎ ((r : R) × Listed q r l)
+  pub listed? : (q : ℕ) (l : List (ListItem R)) → Unlisted q l ⊎ ((r : R) × OnList q r l)
   listed? q [] = inl tt
-  listed? q (item a r ∷ l) =
+  listed? q (itemWith a r ∷ l) =
       elim (ℕ-discrete q a) [
-        | yes e ↦ inr (r, List·Memᴰ·head {x = item a r} (cc))
+        | yes e ↦ inr (r, List·Memᴰ·head {x = itemWith a r} (cc))
         | no n ↦ elim (listed? q l) [ inl f ↦ inl (n, f) | inr t ↦ inr (t .0, List·Memᴰ·tail (t .1)) ]
       ]
 
   -- ── insert ──
 
-  pub insert-ascending : (b q : ℕ) (r : R) (l : List (Item R)) → b < q → Unlisted q l → Ascending b l
+  pub insert-ascending : (b q : ℕ) (r : R) (l : List (ListItem R)) → b < q → Unlisted q l → Ascending b l
       → Ascending b (insert q r l)
   unfolding insert
   insert-ascending b q r [] h f g = (h, tt)
-  insert-ascending b q r (item a s ∷ l) h f g = go (ltb q a) refl (λ k. insert-ascending a q r l k (f .1) (g .1))
+  insert-ascending b q r (itemWith a s ∷ l) h f g = go (ltb q a) refl (λ k. insert-ascending a q r l k (f .1) (g .1))
     where
       go : (t : Bool) → ltb q a ≡ t → (a < q → Ascending a (insert q r l))
-          → Ascending b (pick t (item q r ∷ item a s ∷ l) (item a s ∷ insert q r l))
+          → Ascending b (pick t (itemWith q r ∷ itemWith a s ∷ l) (itemWith a s ∷ insert q r l))
       go true e u = (h, (ltb-true q a e, g .1))
       go false e u = (g .0, u (omega (arith, ltb-false q a e, f .0)))
 
-  pub insert-all : (P : R → Type 0) (q : ℕ) (r : R) (l : List (Item R)) → P r → AllRecords P l → AllRecords P (insert q r l)
+  pub insert-all : (P : R → Type 0) (q : ℕ) (r : R) (l : List (ListItem R)) → P r → AllRecords P l → AllRecords P (insert q r l)
   unfolding insert
   insert-all P q r [] p g = (p, tt)
-  insert-all P q r (item a s ∷ l) p g = go (ltb q a) (insert-all P q r l p (g .1))
+  insert-all P q r (itemWith a s ∷ l) p g = go (ltb q a) (insert-all P q r l p (g .1))
     where
-      go : (t : Bool) → AllRecords P (insert q r l) → AllRecords P (pick t (item q r ∷ item a s ∷ l) (item a s ∷ insert q r l))
+      go : (t : Bool) → AllRecords P (insert q r l) → AllRecords P (pick t (itemWith q r ∷ itemWith a s ∷ l) (itemWith a s ∷ insert q r l))
       go true u = (p, (g .0, g .1))
       go false u = (g .0, u)
 
   -- ── remove ──
 
-  pub remove-head : (a : ℕ) (r : R) (l : List (Item R)) → remove a (item a r ∷ l) ≡ l
+  pub remove-head : (a : ℕ) (r : R) (l : List (ListItem R)) → remove a (itemWith a r ∷ l) ≡ l
   unfolding remove
   remove-head a r l = rw (eq-eqb a a refl) refl
 
-  pub remove-ascending : (b q : ℕ) (l : List (Item R)) → Ascending b l → Ascending b (remove q l)
+  pub remove-ascending : (b q : ℕ) (l : List (ListItem R)) → Ascending b l → Ascending b (remove q l)
   unfolding remove
   remove-ascending b q [] g = tt
-  remove-ascending b q (item a s ∷ l) g = go (eqb q a) (remove-ascending a q l (g .1))
+  remove-ascending b q (itemWith a s ∷ l) g = go (eqb q a) (remove-ascending a q l (g .1))
     where
-      go : (t : Bool) → Ascending a (remove q l) → Ascending b (pick t l (item a s ∷ remove q l))
+      go : (t : Bool) → Ascending a (remove q l) → Ascending b (pick t l (itemWith a s ∷ remove q l))
       go true u = ascending-from l (omega (arith, g .0)) (g .1)
       go false u = (g .0, u)
 
-  pub remove-all : (P : R → Type 0) (q : ℕ) (l : List (Item R)) → AllRecords P l → AllRecords P (remove q l)
+  pub remove-all : (P : R → Type 0) (q : ℕ) (l : List (ListItem R)) → AllRecords P l → AllRecords P (remove q l)
   unfolding remove
   remove-all P q [] g = tt
-  remove-all P q (item a s ∷ l) g = go (eqb q a) (remove-all P q l (g .1))
+  remove-all P q (itemWith a s ∷ l) g = go (eqb q a) (remove-all P q l (g .1))
     where
-      go : (t : Bool) → AllRecords P (remove q l) → AllRecords P (pick t l (item a s ∷ remove q l))
+      go : (t : Bool) → AllRecords P (remove q l) → AllRecords P (pick t l (itemWith a s ∷ remove q l))
       go true u = g .1
       go false u = (g .0, u)
 
   -- ── put a record ──
 
-  pub put-ascending : (b q : ℕ) (r : R) (l : List (Item R)) → Ascending b l → Ascending b (putRecord q r l)
+  pub put-ascending : (b q : ℕ) (r : R) (l : List (ListItem R)) → Ascending b l → Ascending b (putRecord q r l)
   unfolding putRecord
   put-ascending b q r [] g = tt
-  put-ascending b q r (item a s ∷ l) g = go (eqb q a) (put-ascending a q r l (g .1))
+  put-ascending b q r (itemWith a s ∷ l) g = go (eqb q a) (put-ascending a q r l (g .1))
     where
-      go : (t : Bool) → Ascending a (putRecord q r l) → Ascending b (pick t (item a r ∷ l) (item a s ∷ putRecord q r l))
+      go : (t : Bool) → Ascending a (putRecord q r l) → Ascending b (pick t (itemWith a r ∷ l) (itemWith a s ∷ putRecord q r l))
       go true u = (g .0, g .1)
       go false u = (g .0, u)
 
-  pub put-all : (P : R → Type 0) (q : ℕ) (r : R) (l : List (Item R)) → P r → AllRecords P l → AllRecords P (putRecord q r l)
+  pub put-all : (P : R → Type 0) (q : ℕ) (r : R) (l : List (ListItem R)) → P r → AllRecords P l → AllRecords P (putRecord q r l)
   unfolding putRecord
   put-all P q r [] p g = tt
-  put-all P q r (item a s ∷ l) p g = go (eqb q a) (put-all P q r l p (g .1))
+  put-all P q r (itemWith a s ∷ l) p g = go (eqb q a) (put-all P q r l p (g .1))
     where
-      go : (t : Bool) → AllRecords P (putRecord q r l) → AllRecords P (pick t (item a r ∷ l) (item a s ∷ putRecord q r l))
+      go : (t : Bool) → AllRecords P (putRecord q r l) → AllRecords P (pick t (itemWith a r ∷ l) (itemWith a s ∷ putRecord q r l))
       go true u = (p, g .1)
       go false u = (g .0, u)
 
   -- ── ascending lists with the same items are the same ──
 
-  abbrev pub Into : List (Item R) → List (Item R) → Type 0
-  Into l m = (a : ℕ) (r : R) → Listed a r l → Listed a r m
+  abbrev pub Into : List (ListItem R) → List (ListItem R) → Type 0
+  Into l m = (a : ℕ) (r : R) → OnList a r l → OnList a r m
 
   -- an item above d is not the one of number d
-  past-head : (d : ℕ) (z : R) (m : List (Item R)) (q : ℕ) (t : R) → d < q → Listed q t (item d z ∷ m) → Listed q t m
+  past-head : (d : ℕ) (z : R) (m : List (ListItem R)) (q : ℕ) (t : R) → d < q → OnList q t (itemWith d z ∷ m) → OnList q t m
   past-head d z m q t h i =
       elim (List·Memᴰ·cases-cons i) [ inl p ↦ (let w : q ≡ d = cc in absurd (omega arith)) | inr j ↦ j ]
 
-  pub same-items : (b : ℕ) (l m : List (Item R)) → Ascending b l → Ascending b m → Into l m → Into m l → l ≡ m
+  pub same-items : (b : ℕ) (l m : List (ListItem R)) → Ascending b l → Ascending b m → Into l m → Into m l → l ≡ m
   same-items b [] [] g k f h = refl
-  same-items b [] (item a r ∷ m) g k f h = elim (h a r (List·Memᴰ·head refl)) [ ]
-  same-items b (item a r ∷ l) [] g k f h = elim (f a r (List·Memᴰ·head refl)) [ ]
-  same-items b (item a r ∷ l) (item c s ∷ m) g k f h =
+  same-items b [] (itemWith a r ∷ m) g k f h = elim (h a r (List·Memᴰ·head refl)) [ ]
+  same-items b (itemWith a r ∷ l) [] g k f h = elim (f a r (List·Memᴰ·head refl)) [ ]
+  same-items b (itemWith a r ∷ l) (itemWith c s ∷ m) g k f h =
       go (List·Memᴰ·cases-cons (f a r (List·Memᴰ·head refl))) (List·Memᴰ·cases-cons (h c s (List·Memᴰ·head refl)))
       (λ e u v. same-items a l m (g .1) (subst (λ (n : ℕ). Ascending n m) (sym e) (k .1)) u v)
     where
-      go : (item a r ≡ item c s) ⊎ Listed a r m → (item c s ≡ item a r) ⊎ Listed c s l → (a ≡ c → Into l m → Into m l → l ≡ m)
-          → _≡_ {A = List (Item R)} (item a r ∷ l) (item c s ∷ m)
+      go : (itemWith a r ≡ itemWith c s) ⊎ OnList a r m → (itemWith c s ≡ itemWith a r) ⊎ OnList c s l
+          → (a ≡ c → Into l m → Into m l → l ≡ m) → _≡_ {A = List (ListItem R)} (itemWith a r ∷ l) (itemWith c s ∷ m)
       go (inl e) j tails =
           let p : a ≡ c = cc in
           let t = tails p

@@ -7,7 +7,7 @@ use Prim.Native.Nat.{ℕ}
 use Rattle.paper.specs.declared.Record.{Record}
 use Rattle.paper.specs.Strings.{Dig, Memo, u1, v1, u2, ei, Str, digest, memorandum, memorandumForms}
 use Rattle.rings.specs.Trees.{Tree}
-use Rattle.rings.specs.Lists.{Item}
+use Rattle.rings.specs.Lists.{ListItem}
 use Rattle.rings.specs.Changes.{Step}
 use Rattle.rings.specs.Meanings.{Within, Known, StandsFor, Means, Fault}
 use Rattle.rings.proofs.Nodes.{_>>=_, same-string, tree-more}
@@ -16,7 +16,7 @@ use Rattle.rings.proofs.Items.{all-more}
 use Rattle.rings.proofs.Records.{known-more}
 
 module _ (D : Str → Dig) where
-  pub stands-more : {F G : List Str} {T : Tree} {ls : List (Item Record)} → Within F G → StandsFor D F T ls → StandsFor D G T ls
+  pub stands-more : {F G : List Str} {T : Tree} {ls : List (ListItem Record)} → Within F G → StandsFor D F T ls → StandsFor D G T ls
   stands-more {F} {G} {T} {ls} s g =
       record {
         tree-in = tree-more D T s (g .tree-in);

@@ -12,7 +12,7 @@ use Rattle.seqs.specs.Bytes.{same, same-true}
 use Rattle.paper.specs.Strings.{Dig, nought, Str, leaf, node}
 use Rattle.paper.proofs.Encoding.{Str-discrete}
 use Rattle.rings.specs.Trees.{points, Tree, empty, tip, branch, leaves}
-use Rattle.rings.specs.Meanings.{_∈_, Within, above, hash, TreeIn, Fault, collides, vanishes}
+use Rattle.rings.specs.Meanings.{_∈_, Within, above, hashOfTree, TreeIn, Fault, collides, vanishes}
 
 pub Dig-discrete : Discrete Dig
 Dig-discrete = List-discrete ℕ-discrete
@@ -60,47 +60,49 @@ module _ (D : Str → Dig) where
   tree-more empty s i = tt
   tree-more (tip (points a b w)) s i = s (leaf a b w) i
   tree-more (branch l r) s i =
-      (tree-more l s (i .0), tree-more r s (i .1), λ n m. s (node (hash D l) (hash D r)) (i .2 n m))
+      (tree-more l s (i .0), tree-more r s (i .1), λ n m. s (node (hashOfTree D l) (hashOfTree D r)) (i .2 n m))
 
   pub same-string : {F : List Str} {s t : Str} → s ∈ F → t ∈ F → D s ≡ D t → Fault D F ⊎ (s ≡ t)
   same-string {F} {s} {t} i j e = elim (Str-discrete s t) [ yes p ↦ inr p | no n ↦ inl (collides s t i j n e) ]
 
   -- a tree that hashes to 0 has no leaves
-  pub no-leaf : {F : List Str} (T : Tree) → hash D T ≡ nought → TreeIn D F T → Fault D F ⊎ (leaves T ≡ [])
+  pub no-leaf : {F : List Str} (T : Tree) → hashOfTree D T ≡ nought → TreeIn D F T → Fault D F ⊎ (leaves T ≡ [])
   no-leaf empty e i = inr refl
   no-leaf (tip (points a b w)) e i = inl (vanishes (leaf a b w) i e)
   no-leaf (branch l r) e i =
-      elim (Dig-discrete (hash D l) nought) [
+      elim (Dig-discrete (hashOfTree D l) nought) [
         | yes p ↦ (do
           u ← no-leaf l p (i .0)
-          v ← no-leaf r (sym (above-left-0 (hash D l) (hash D r) p) ∙ e) (i .1)
+          v ← no-leaf r (sym (above-left-0 (hashOfTree D l) (hashOfTree D r) p) ∙ e) (i .1)
           inr (rw (u, v)))
-        | no n ↦ elim (Dig-discrete (hash D r) nought) [
-          | yes q ↦ absurd (n (sym (above-right-0 (hash D l) (hash D r) q) ∙ e))
-          | no m ↦ inl (vanishes (node (hash D l) (hash D r)) (i .2 n m) (sym (above-node (hash D l) (hash D r) n m) ∙ e))
+        | no n ↦ elim (Dig-discrete (hashOfTree D r) nought) [
+          | yes q ↦ absurd (n (sym (above-right-0 (hashOfTree D l) (hashOfTree D r) q) ∙ e))
+          | no m ↦
+              inl (vanishes (node (hashOfTree D l) (hashOfTree D r)) (i .2 n m)
+              (sym (above-node (hashOfTree D l) (hashOfTree D r) n m) ∙ e))
         ]
       ]
 
   -- a tree that hashes to a leaf's digest holds that leaf alone
-  pub only-leaf : {F : List Str} (T : Tree) (a b : ℕ) (w : Dig) → leaf a b w ∈ F → hash D T ≡ D (leaf a b w) → TreeIn D F T
+  pub only-leaf : {F : List Str} (T : Tree) (a b : ℕ) (w : Dig) → leaf a b w ∈ F → hashOfTree D T ≡ D (leaf a b w) → TreeIn D F T
       → Fault D F ⊎ (leaves T ≡ points a b w ∷ [])
   only-leaf empty a b w m e i = inl (vanishes (leaf a b w) m (sym e))
   only-leaf {F} (tip (points a′ b′ w′)) a b w m e i = do
     p ← same-string i m e
     inr (cc)
   only-leaf (branch l r) a b w m e i =
-      elim (Dig-discrete (hash D l) nought) [
+      elim (Dig-discrete (hashOfTree D l) nought) [
         | yes p ↦ (do
           u ← no-leaf l p (i .0)
-          v ← only-leaf r a b w m (sym (above-left-0 (hash D l) (hash D r) p) ∙ e) (i .1)
+          v ← only-leaf r a b w m (sym (above-left-0 (hashOfTree D l) (hashOfTree D r) p) ∙ e) (i .1)
           inr (rw (u, v)))
-        | no n ↦ elim (Dig-discrete (hash D r) nought) [
+        | no n ↦ elim (Dig-discrete (hashOfTree D r) nought) [
           | yes q ↦ (do
             u ← no-leaf r q (i .1)
-            v ← only-leaf l a b w m (sym (above-right-0 (hash D l) (hash D r) q) ∙ e) (i .0)
+            v ← only-leaf l a b w m (sym (above-right-0 (hashOfTree D l) (hashOfTree D r) q) ∙ e) (i .0)
             inr (rw (u, v)))
           | no k ↦ (do
-            p ← same-string (i .2 n k) m (sym (above-node (hash D l) (hash D r) n k) ∙ e)
+            p ← same-string (i .2 n k) m (sym (above-node (hashOfTree D l) (hashOfTree D r) n k) ∙ e)
             let z : _≡_ {A = ℕ} 0 1 = cc
             absurd (omega arith))
         ]

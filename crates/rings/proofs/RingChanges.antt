@@ -11,7 +11,7 @@ use lib.Dec.{eqb, ltb}
 use Rattle.seqs.specs.Choose.{pick}
 use Rattle.paper.specs.Strings.{Dig}
 use Rattle.rings.specs.Trees.{Leaf, points, one, count}
-use Rattle.rings.specs.Lists.{Item, item, Ascending, Unlisted, insert, remove, putRecord, chainOf, ring}
+use Rattle.rings.specs.Lists.{ListItem, itemWith, Ascending, Unlisted, insert, remove, putRecord, chainOf, ring}
 use Rattle.rings.proofs.Counting.{count-nil, count-cons, count-cases, count-single}
 use Rattle.rings.proofs.Gaps.{Gap, between, beyond, before}
 use Rattle.rings.proofs.Ring.{bounds, unlisted-in, rewrap}
@@ -27,7 +27,7 @@ Rehash A B w w′ x L M = count x L + one x (points A B w) ≡ count x M + one x
 module _ {R : Type 0} (h : R → Dig) where
   -- ── removing an item: its leaf goes, and the leaf before it leads on ──
 
-  remove-chain : (q A B : ℕ) (w v : Dig) (a : ℕ) (r : R) (l : List (Item R)) (z : ℕ) → z ≤ a → Ascending a l → a < q
+  remove-chain : (q A B : ℕ) (w v : Dig) (a : ℕ) (r : R) (l : List (ListItem R)) (z : ℕ) → z ≤ a → Ascending a l → a < q
       → 0 < count (points A q w) (chainOf h a r l z) → 0 < count (points q B v) (chainOf h a r l z) → (x : Leaf)
       → Bypass q A B w v x (chainOf h a r l z) (chainOf h a r (remove q l) z)
   unfolding remove
@@ -35,17 +35,17 @@ module _ {R : Type 0} (h : R → Dig) where
       let e = count-single _ _ m in
       let p : q ≡ z = cc in
       absurd (omega arith)
-  remove-chain q A B w v a r (item b s ∷ l) z hz g hq m m′ x =
+  remove-chain q A B w v a r (itemWith b s ∷ l) z hz g hq m m′ x =
       go (eqb q b) refl (count-cases _ _ _ m) (count-cases _ _ _ m′)
       (λ u t t′. remove-chain q A B w v b s l z (omega (arith, g .0)) (g .1) u t t′ x)
     where
-      last : (l : List (Item R)) → Ascending b l → q ≡ b → 0 < count (points q B v) (chainOf h b s l z)
+      last : (l : List (ListItem R)) → Ascending b l → q ≡ b → 0 < count (points q B v) (chainOf h b s l z)
           → count x (chainOf h b s l z) + one x (points a B (h r)) ≡ count x (chainOf h a r l z) + one x (points q B v)
       last [] k p t =
           let e = count-single _ _ t in
           let e′ : points a B (h r) ≡ points a z (h r) = cc in
           simp (count-cons, count-nil) (omega (arith, ap (one x) e, ap (one x) e′))
-      last (item c s′ ∷ l′) k p t =
+      last (itemWith c s′ ∷ l′) k p t =
           elim (count-cases _ _ _ t) [
             | inl e ↦ (
                 let e′ : points a B (h r) ≡ points a c (h r) = cc in
@@ -57,7 +57,7 @@ module _ {R : Type 0} (h : R → Dig) where
           → (points q B v ≡ points a b (h r)) ⊎ (0 < count (points q B v) (chainOf h b s l z))
           → (b < q → 0 < count (points A q w) (chainOf h b s l z) → 0 < count (points q B v) (chainOf h b s l z)
           → Bypass q A B w v x (chainOf h b s l z) (chainOf h b s (remove q l) z))
-          → Bypass q A B w v x (points a b (h r) ∷ chainOf h b s l z) (chainOf h a r (pick t l (item b s ∷ remove q l)) z)
+          → Bypass q A B w v x (points a b (h r) ∷ chainOf h b s l z) (chainOf h a r (pick t l (itemWith b s ∷ remove q l)) z)
       go d i t (inl e) f = let p : q ≡ a = cc in absurd (omega arith)
       go true i (inl e) (inr t′) f =
           let p : q ≡ b = eqb-true q b i in
@@ -72,16 +72,16 @@ module _ {R : Type 0} (h : R → Dig) where
           simp count-cons
           (omega (arith, f (omega (arith, eqb-false q b i, (bounds h q B v b s l z (g .1) t′) .0)) t t′))
 
-  pub remove-ring : (q A B : ℕ) (w v : Dig) (ls : List (Item R)) → Ascending 0 ls → A ≢ q → 0 < count (points A q w) (ring h ls)
+  pub remove-ring : (q A B : ℕ) (w v : Dig) (ls : List (ListItem R)) → Ascending 0 ls → A ≢ q → 0 < count (points A q w) (ring h ls)
       → 0 < count (points q B v) (ring h ls) → (x : Leaf) → Bypass q A B w v x (ring h ls) (ring h (remove q ls))
   unfolding remove
   remove-ring q A B w v [] g n m m′ x = absurd (omega (arith, count-nil (points A q w)))
-  remove-ring q A B w v (item a r ∷ l) g n m m′ x = go (eqb q a) refl
+  remove-ring q A B w v (itemWith a r ∷ l) g n m m′ x = go (eqb q a) refl
     where
-      first : (l : List (Item R)) → Ascending a l → q ≡ a → 0 < count (points A q w) (chainOf h a r l a)
+      first : (l : List (ListItem R)) → Ascending a l → q ≡ a → 0 < count (points A q w) (chainOf h a r l a)
           → 0 < count (points q B v) (chainOf h a r l a) → Bypass q A B w v x (chainOf h a r l a) (ring h l)
       first [] k p t t′ = let e = count-single _ _ t in absurd (n (cc))
-      first (item b s ∷ l′) k p t t′ = on (count-cases _ _ _ t) (count-cases _ _ _ t′)
+      first (itemWith b s ∷ l′) k p t t′ = on (count-cases _ _ _ t) (count-cases _ _ _ t′)
         where
           on : (points A q w ≡ points a b (h r)) ⊎ (0 < count (points A q w) (chainOf h b s l′ a))
               → (points q B v ≡ points a b (h r)) ⊎ (0 < count (points q B v) (chainOf h b s l′ a))
@@ -95,7 +95,7 @@ module _ {R : Type 0} (h : R → Dig) where
               let wrapped = rewrap h A w b s l′ a b (omega (arith, k .0)) (k .1) u′ x in
               simp count-cons (omega (arith, wrapped, ap (one x) e, ap (one x) e₁, ap (one x) e₂))
 
-      go : (t : Bool) → eqb q a ≡ t → Bypass q A B w v x (chainOf h a r l a) (ring h (pick t l (item a r ∷ remove q l)))
+      go : (t : Bool) → eqb q a ≡ t → Bypass q A B w v x (chainOf h a r l a) (ring h (pick t l (itemWith a r ∷ remove q l)))
       go true i = first l (g .1) (eqb-true q a i) m m′
       go false i =
           remove-chain q A B w v a r l a (omega arith) (g .1)
@@ -103,14 +103,14 @@ module _ {R : Type 0} (h : R → Dig) where
 
   -- ── putting a record: one leaf has another hash ──
 
-  put-head : (A B : ℕ) (w : Dig) (r : R) (a : ℕ) (s : R) (l : List (Item R)) (z : ℕ) → A ≡ a → Ascending a l
+  put-head : (A B : ℕ) (w : Dig) (r : R) (a : ℕ) (s : R) (l : List (ListItem R)) (z : ℕ) → A ≡ a → Ascending a l
       → 0 < count (points A B w) (chainOf h a s l z) → (x : Leaf)
       → Rehash A B w (h r) x (chainOf h a r l z) (chainOf h a s l z)
   put-head A B w r a s [] z p g m x =
       let e = count-single _ _ m in
       let e′ : points A B (h r) ≡ points a z (h r) = cc in
       simp (count-cons, count-nil) (omega (arith, ap (one x) e, ap (one x) e′))
-  put-head A B w r a s (item b t ∷ l) z p g m x =
+  put-head A B w r a s (itemWith b t ∷ l) z p g m x =
       elim (count-cases _ _ _ m) [
         | inl e ↦ (
             let e′ : points A B (h r) ≡ points a b (h r) = cc in
@@ -118,37 +118,37 @@ module _ {R : Type 0} (h : R → Dig) where
         | inr u ↦ absurd (omega (arith, g .0, (bounds h A B w b t l z (g .1) u) .0))
       ]
 
-  put-tail : (A B : ℕ) (w : Dig) (r : R) (a : ℕ) (s : R) (l : List (Item R)) (z : ℕ) → A ≢ a → Ascending a l
+  put-tail : (A B : ℕ) (w : Dig) (r : R) (a : ℕ) (s : R) (l : List (ListItem R)) (z : ℕ) → A ≢ a → Ascending a l
       → 0 < count (points A B w) (chainOf h a s l z) → (x : Leaf)
       → Rehash A B w (h r) x (chainOf h a s (putRecord A r l) z) (chainOf h a s l z)
   unfolding putRecord
   put-tail A B w r a s [] z n g m x = let e = count-single _ _ m in absurd (n (cc))
-  put-tail A B w r a s (item b t ∷ l) z n g m x =
+  put-tail A B w r a s (itemWith b t ∷ l) z n g m x =
       go (eqb A b) refl (count-cases _ _ _ m) (λ k u. put-tail A B w r b t l z k (g .1) u x)
     where
       go : (d : Bool) → eqb A b ≡ d → (points A B w ≡ points a b (h s)) ⊎ (0 < count (points A B w) (chainOf h b t l z))
           → (A ≢ b → 0 < count (points A B w) (chainOf h b t l z)
           → Rehash A B w (h r) x (chainOf h b t (putRecord A r l) z) (chainOf h b t l z))
-          → Rehash A B w (h r) x (chainOf h a s (pick d (item b r ∷ l) (item b t ∷ putRecord A r l)) z)
+          → Rehash A B w (h r) x (chainOf h a s (pick d (itemWith b r ∷ l) (itemWith b t ∷ putRecord A r l)) z)
           (points a b (h s) ∷ chainOf h b t l z)
       go d i (inl e) f = absurd (n (cc))
       go true i (inr u) f = simp count-cons (omega (arith, put-head A B w r b t l z (eqb-true A b i) (g .1) u x))
       go false i (inr u) f = simp count-cons (omega (arith, f (eqb-false A b i) u))
 
-  pub put-ring : (A B : ℕ) (w : Dig) (r : R) (ls : List (Item R)) → Ascending 0 ls → 0 < count (points A B w) (ring h ls)
+  pub put-ring : (A B : ℕ) (w : Dig) (r : R) (ls : List (ListItem R)) → Ascending 0 ls → 0 < count (points A B w) (ring h ls)
       → (x : Leaf) → Rehash A B w (h r) x (ring h (putRecord A r ls)) (ring h ls)
   unfolding putRecord
   put-ring A B w r [] g m x = absurd (omega (arith, count-nil (points A B w)))
-  put-ring A B w r (item a s ∷ l) g m x = go (eqb A a) refl
+  put-ring A B w r (itemWith a s ∷ l) g m x = go (eqb A a) refl
     where
       go : (d : Bool) → eqb A a ≡ d
-          → Rehash A B w (h r) x (ring h (pick d (item a r ∷ l) (item a s ∷ putRecord A r l))) (chainOf h a s l a)
+          → Rehash A B w (h r) x (ring h (pick d (itemWith a r ∷ l) (itemWith a s ∷ putRecord A r l))) (chainOf h a s l a)
       go true i = put-head A B w r a s l a (eqb-true A a i) (g .1) m x
       go false i = put-tail A B w r a s l a (eqb-false A a i) (g .1) m x
 
   -- ── inserting an item: the leaf in whose gap it lies leads to it, and it leads on ──
 
-  insert-chain : (q A B : ℕ) (w : Dig) (new : R) (a : ℕ) (r : R) (l : List (Item R)) (z : ℕ) → z ≤ a → Ascending a l → a < q
+  insert-chain : (q A B : ℕ) (w : Dig) (new : R) (a : ℕ) (r : R) (l : List (ListItem R)) (z : ℕ) → z ≤ a → Ascending a l → a < q
       → Unlisted q l → Gap A B q → 0 < count (points A B w) (chainOf h a r l z) → (x : Leaf)
       → Bypass q A B w (h new) x (chainOf h a r (insert q new l) z) (chainOf h a r l z)
   unfolding insert
@@ -157,7 +157,7 @@ module _ {R : Type 0} (h : R → Dig) where
       let e₁ : points A q w ≡ points a q (h r) = cc in
       let e₂ : points q B (h new) ≡ points q z (h new) = cc in
       simp (count-cons, count-nil) (omega (arith, ap (one x) e, ap (one x) e₁, ap (one x) e₂))
-  insert-chain q A B w new a r (item b s ∷ l) z hz g hq f k m x =
+  insert-chain q A B w new a r (itemWith b s ∷ l) z hz g hq f k m x =
       go (ltb q b) refl (count-cases _ _ _ m)
       (λ u t. insert-chain q A B w new b s l z (omega (arith, g .0)) (g .1) u (f .1) k t x)
     where
@@ -175,7 +175,7 @@ module _ {R : Type 0} (h : R → Dig) where
       go : (d : Bool) → ltb q b ≡ d → (points A B w ≡ points a b (h r)) ⊎ (0 < count (points A B w) (chainOf h b s l z))
           → (b < q → 0 < count (points A B w) (chainOf h b s l z)
           → Bypass q A B w (h new) x (chainOf h b s (insert q new l) z) (chainOf h b s l z))
-          → Bypass q A B w (h new) x (chainOf h a r (pick d (item q new ∷ item b s ∷ l) (item b s ∷ insert q new l)) z)
+          → Bypass q A B w (h new) x (chainOf h a r (pick d (itemWith q new ∷ itemWith b s ∷ l) (itemWith b s ∷ insert q new l)) z)
           (points a b (h r) ∷ chainOf h b s l z)
       go true u (inl e) i =
           let e₁ : points A q w ≡ points a q (h r) = cc in
@@ -187,11 +187,11 @@ module _ {R : Type 0} (h : R → Dig) where
       go false u (inl e) i = absurd (omega (arith, ltb-false q b u, up (cc) (cc) k))
       go false u (inr t) i = simp count-cons (omega (arith, i (omega (arith, ltb-false q b u, f .0)) t))
 
-  pub insert-ring : (q A B : ℕ) (w : Dig) (new : R) (ls : List (Item R)) → Ascending 0 ls → Gap A B q
+  pub insert-ring : (q A B : ℕ) (w : Dig) (new : R) (ls : List (ListItem R)) → Ascending 0 ls → Gap A B q
       → 0 < count (points A B w) (ring h ls) → (x : Leaf) → Bypass q A B w (h new) x (ring h (insert q new ls)) (ring h ls)
   unfolding insert
   insert-ring q A B w new [] g k m x = absurd (omega (arith, count-nil (points A B w)))
-  insert-ring q A B w new (item a r ∷ l) g k m x = go (ltb q a) refl (unlisted-in h q A B w a r l a (omega arith) (g .1) k m)
+  insert-ring q A B w new (itemWith a r ∷ l) g k m x = go (ltb q a) refl (unlisted-in h q A B w a r l a (omega arith) (g .1) k m)
     where
       wrap : q < a → a ≤ A → (A < B) ⊎ (B ≡ a) → Gap A B q → B ≡ a
       wrap u v (inr t) k = t
@@ -199,8 +199,9 @@ module _ {R : Type 0} (h : R → Dig) where
       wrap u v (inl t) (beyond k₁ k₂) = absurd (omega arith)
       wrap u v (inl t) (before k₁ k₂ k₃) = absurd (omega arith)
 
-      go : (d : Bool) → ltb q a ≡ d → Unlisted q (item a r ∷ l)
-          → Bypass q A B w (h new) x (ring h (pick d (item q new ∷ item a r ∷ l) (item a r ∷ insert q new l))) (chainOf h a r l a)
+      go : (d : Bool) → ltb q a ≡ d → Unlisted q (itemWith a r ∷ l)
+          → Bypass q A B w (h new) x (ring h (pick d (itemWith q new ∷ itemWith a r ∷ l) (itemWith a r ∷ insert q new l)))
+          (chainOf h a r l a)
       go true u f =
           let v = bounds h A B w a r l a (g .1) m in
           let p : B ≡ a = wrap (ltb-true q a u) (v .0) (v .1) k in

@@ -8,9 +8,9 @@ use native.Mathlib.Omega.{arith}
 use Rattle.paper.specs.declared.Record.{Record}
 use Rattle.paper.specs.Strings.{Dig, nought, emptyRecord, Str, leaf}
 use Rattle.rings.specs.Trees.{Leaf, points, Tree, empty, tip, one, count}
-use Rattle.rings.specs.Lists.{Item, item, Ascending, Listed, insert, chainOf, ring}
+use Rattle.rings.specs.Lists.{ListItem, itemWith, Ascending, OnList, insert, chainOf, ring}
 use Rattle.rings.specs.Changes.{Step, insertion, removal, doSteps, reversed}
-use Rattle.rings.specs.Meanings.{_∈_, Within, AllRecords, MeansU2, hash, TreeIn, hashRecord, Known, known-empty, Fault, Leads, MeansEI}
+use Rattle.rings.specs.Meanings.{_∈_, Within, AllRecords, MeansU2, hashOfTree, TreeIn, hashRecord, Known, known-empty, Fault, Leads, MeansEI}
 use Rattle.rings.proofs.Counting.{one-self, count-nil, count-cons, count-only, count-single}
 use Rattle.rings.proofs.Nodes.{_>>=_, no-leaf, only-leaf}
 use Rattle.rings.proofs.Align.{Two, align-two, paths-more}
@@ -23,14 +23,14 @@ use Rattle.rings.proofs.Steps.{steps-append, legal-append, reversed-app
 use Rattle.rings.proofs.Records.{hash-empty, no-record}
 
 module _ (D : Str → Dig) where
-  abbrev ringOf : List (Item Record) → List Leaf
+  abbrev ringOf : List (ListItem Record) → List Leaf
   ringOf ls = ring (hashRecord D) ls
 
   -- ── two places of every tree with the hash, by a U2 ──
 
   abbrev TwoPlaces : List Str → (x₁ x₂ y x₁′ x₂′ y′ : Dig) → Type 0
   TwoPlaces F x₁ x₂ y x₁′ x₂′ y′ =
-      (G : List Str) → Within F G → (T : Tree) → hash D T ≡ y → TreeIn D G T → Fault D G ⊎ Two D G x₁ x₂ x₁′ x₂′ y′ T
+      (G : List Str) → Within F G → (T : Tree) → hashOfTree D T ≡ y → TreeIn D G T → Fault D G ⊎ Two D G x₁ x₂ x₁′ x₂′ y′ T
 
   two-places : {F : List Str} {x₁ x₂ y x₁′ x₂′ y′ : Dig} → MeansU2 D F x₁ x₂ y x₁′ x₂′ y′ → TwoPlaces F x₁ x₂ y x₁′ x₂′ y′
   two-places {F} {x₁} {x₂} {y} {x₁′} {x₂′} {y′} u G s T e i =
@@ -107,19 +107,19 @@ module _ (D : Str → Dig) where
   -- ── 07 first ──
 
   -- a ring without leaves is that of the empty list
-  pub no-items : (ls : List (Item Record)) → ((x : Leaf) → count x (ringOf ls) ≡ 0) → ls ≡ []
+  pub no-items : (ls : List (ListItem Record)) → ((x : Leaf) → count x (ringOf ls) ≡ 0) → ls ≡ []
   no-items [] f = refl
-  no-items (item a r ∷ l) f =
-      let i = item-leaf (hashRecord D) a r (item a r ∷ l) (List·Memᴰ·head refl) in
+  no-items (itemWith a r ∷ l) f =
+      let i = item-leaf (hashRecord D) a r (itemWith a r ∷ l) (List·Memᴰ·head refl) in
       absurd (omega (arith, f (points a (i .0) (hashRecord D r)), i .1))
 
   -- a ring of one leaf, of hash 0, is that of one empty item
-  one-item : {F : List Str} (A : ℕ) (ls : List (Item Record)) → Ascending 0 ls → AllRecords (Known D F) ls
-      → ((x : Leaf) → count x (ringOf ls) ≡ count x (points A A nought ∷ [])) → Fault D F ⊎ (ls ≡ item A emptyRecord ∷ [])
+  one-item : {F : List Str} (A : ℕ) (ls : List (ListItem Record)) → Ascending 0 ls → AllRecords (Known D F) ls
+      → ((x : Leaf) → count x (ringOf ls) ≡ count x (points A A nought ∷ [])) → Fault D F ⊎ (ls ≡ itemWith A emptyRecord ∷ [])
   one-item A [] g k f =
       let x = points A A nought in
       absurd (omega (arith, f x, count-nil x, count-cons x x [], one-self x))
-  one-item A (item a r ∷ []) g k f =
+  one-item A (itemWith a r ∷ []) g k f =
       let x = points a a (hashRecord D r) in
       let e = count-single x (points A A nought) (omega (arith, f x, count-cons x x [], one-self x)) in
       let p : a ≡ A = cc in
@@ -127,7 +127,7 @@ module _ (D : Str → Dig) where
       do
         t ← no-record D r (k .0) q
         inr (cc)
-  one-item A (item a r ∷ item b s ∷ l) g k f =
+  one-item A (itemWith a r ∷ itemWith b s ∷ l) g k f =
       let x = points a b (hashRecord D r) in
       let on = count-cons x x (chainOf (hashRecord D) b s l a) in
       let e = count-single x (points A A nought) (omega (arith, f x, on, one-self x)) in
@@ -193,7 +193,7 @@ module _ (D : Str → Dig) where
     inr (record {
       tree = u .tree;
       tree-hash = u .tree-hash;
-      legal = (subst (λ (r : Record). Listed q r ls) c (held .1), tt);
+      legal = (subst (λ (r : Record). OnList q r ls) c (held .1), tt);
       stands = record {
         tree-in = u .tree-in;
         ascending = remove-ascending 0 q ls (g .ascending);

@@ -2,14 +2,14 @@
 use mathlib.Core.Path.{_≡_, refl, sym, ap, _∙_}
 use mathlib.Core.List.{List, [], _∷_, _++_, append-assoc, append-nil}
 use Rattle.paper.specs.declared.Record.{Record}
-use Rattle.rings.specs.Lists.{Item}
+use Rattle.rings.specs.Lists.{ListItem}
 use Rattle.rings.specs.Changes.{Step, insertion, removal, doStep, doSteps, undoing, reversed, LegalSteps}
 
-pub steps-append : (c d : List Step) (ls : List (Item Record)) → doSteps (c ++ d) ls ≡ doSteps d (doSteps c ls)
+pub steps-append : (c d : List Step) (ls : List (ListItem Record)) → doSteps (c ++ d) ls ≡ doSteps d (doSteps c ls)
 steps-append [] d ls = refl
 steps-append (s ∷ c) d ls = steps-append c d (doStep s ls)
 
-pub legal-append : (c d : List Step) (ls : List (Item Record)) → LegalSteps c ls → LegalSteps d (doSteps c ls)
+pub legal-append : (c d : List Step) (ls : List (ListItem Record)) → LegalSteps c ls → LegalSteps d (doSteps c ls)
     → LegalSteps (c ++ d) ls
 legal-append [] d ls h k = k
 legal-append (s ∷ c) d ls h k = (h .0, legal-append c d (doStep s ls) (h .1) k)

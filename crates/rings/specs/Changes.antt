@@ -4,19 +4,19 @@ use mathlib.Core.List.{List, [], _∷_, _++_}
 use Prim.Native.Nat.{ℕ, _<_}
 use Rattle.paper.specs.declared.Record.{Record}
 use Rattle.paper.specs.Strings.{emptyRecord}
-use Rattle.rings.specs.Lists.{Item, Listed, Unlisted, insert, remove}
+use Rattle.rings.specs.Lists.{ListItem, OnList, Unlisted, insert, remove}
 
 -- "first adds an empty item; place removes one"
 pub data Step : Type 0 where
   insertion : (A : ℕ) → Step
   removal : (A : ℕ) → Step
 
-abbrev pub doStep : Step → List (Item Record) → List (Item Record)
+abbrev pub doStep : Step → List (ListItem Record) → List (ListItem Record)
 doStep (insertion A) ls = insert A emptyRecord ls
 doStep (removal A) ls = remove A ls
 
 -- several, in order
-abbrev pub doSteps : List Step → List (Item Record) → List (Item Record)
+abbrev pub doSteps : List Step → List (ListItem Record) → List (ListItem Record)
 doSteps [] ls = ls
 doSteps (s ∷ c) ls = doSteps c (doStep s ls)
 
@@ -30,10 +30,10 @@ reversed [] = []
 reversed (s ∷ c) = reversed c ++ (undoing s ∷ [])
 
 -- "Legal: to insert a number that isn't 0 and isn't listed, to remove a listed empty item": each step for the list it meets
-abbrev pub LegalStep : Step → List (Item Record) → Type 0
+abbrev pub LegalStep : Step → List (ListItem Record) → Type 0
 LegalStep (insertion A) ls = (0 < A) × Unlisted A ls
-LegalStep (removal A) ls = Listed A emptyRecord ls
+LegalStep (removal A) ls = OnList A emptyRecord ls
 
-abbrev pub LegalSteps : List Step → List (Item Record) → Type 0
+abbrev pub LegalSteps : List Step → List (ListItem Record) → Type 0
 LegalSteps [] ls = Unit {0}
 LegalSteps (s ∷ c) ls = LegalStep s ls × LegalSteps c (doStep s ls)

@@ -9,49 +9,49 @@ use Rattle.paper.specs.Strings.{Dig}
 use Rattle.rings.specs.Trees.{Leaf, points}
 
 -- an item of the list: its number and its record, which may be the empty one
-pub data Item (R : Type 0) : Type 0 where
-  item : (A : ℕ) (r : R) → Item R
+pub data ListItem (R : Type 0) : Type 0 where
+  itemWith : (A : ℕ) (r : R) → ListItem R
 
 module _ {R : Type 0} where
   -- "one ascending ring of distinct item numbers": each number is above the one before, the first above b
-  abbrev pub Ascending : (b : ℕ) → List (Item R) → Type 0
+  abbrev pub Ascending : (b : ℕ) → List (ListItem R) → Type 0
   Ascending b [] = Unit {0}
-  Ascending b (item a r ∷ l) = (b < a) × Ascending a l
+  Ascending b (itemWith a r ∷ l) = (b < a) × Ascending a l
 
   -- item A is listed, with the record r; A is not listed
-  abbrev pub Listed : (A : ℕ) → R → List (Item R) → Type 0
-  Listed A r l = List·Memᴰ (item A r) l
+  abbrev pub OnList : (A : ℕ) → R → List (ListItem R) → Type 0
+  OnList A r l = List·Memᴰ (itemWith A r) l
 
-  abbrev pub Unlisted : (A : ℕ) → List (Item R) → Type 0
+  abbrev pub Unlisted : (A : ℕ) → List (ListItem R) → Type 0
   Unlisted A [] = Unit {0}
-  Unlisted A (item a r ∷ l) = (A ≢ a) × Unlisted A l
+  Unlisted A (itemWith a r ∷ l) = (A ≢ a) × Unlisted A l
 
   -- ── changes ──
 
   -- an item more, before the first of a greater number ("first adds an empty item"). Of a listed number it would make a second
   -- one: that no run comes to that before it ends is `LegalEffect` of `runs`
-  unfoldable pub insert : (A : ℕ) → R → List (Item R) → List (Item R)
-  insert A r [] = item A r ∷ []
-  insert A r (item a s ∷ l) = pick (ltb A a) (item A r ∷ item a s ∷ l) (item a s ∷ insert A r l)
+  unfoldable pub insert : (A : ℕ) → R → List (ListItem R) → List (ListItem R)
+  insert A r [] = itemWith A r ∷ []
+  insert A r (itemWith a s ∷ l) = pick (ltb A a) (itemWith A r ∷ itemWith a s ∷ l) (itemWith a s ∷ insert A r l)
 
   -- item A taken out ("place removes one")
-  unfoldable pub remove : (A : ℕ) → List (Item R) → List (Item R)
+  unfoldable pub remove : (A : ℕ) → List (ListItem R) → List (ListItem R)
   remove A [] = []
-  remove A (item a s ∷ l) = pick (eqb A a) l (item a s ∷ remove A l)
+  remove A (itemWith a s ∷ l) = pick (eqb A a) l (itemWith a s ∷ remove A l)
 
   -- another record for item A ("set and clear change one record")
-  unfoldable pub putRecord : (A : ℕ) → R → List (Item R) → List (Item R)
+  unfoldable pub putRecord : (A : ℕ) → R → List (ListItem R) → List (ListItem R)
   putRecord A r [] = []
-  putRecord A r (item a s ∷ l) = pick (eqb A a) (item a r ∷ l) (item a s ∷ putRecord A r l)
+  putRecord A r (itemWith a s ∷ l) = pick (eqb A a) (itemWith a r ∷ l) (itemWith a s ∷ putRecord A r l)
 
   -- ── the ring ──
 
   -- the leaf of item a with record r, and those of the items after it; the last leads to z
-  abbrev pub chainOf : (h : R → Dig) (a : ℕ) (r : R) → List (Item R) → (z : ℕ) → List Leaf
+  abbrev pub chainOf : (h : R → Dig) (a : ℕ) (r : R) → List (ListItem R) → (z : ℕ) → List Leaf
   chainOf h a r [] z = points a z (h r) ∷ []
-  chainOf h a r (item b s ∷ l) z = points a b (h r) ∷ chainOf h b s l z
+  chainOf h a r (itemWith b s ∷ l) z = points a b (h r) ∷ chainOf h b s l z
 
   -- (a1, a2, h r1), (a2, a3, h r2), .., (an, a1, h rn): every leaf leads to the next number, the last to the first
-  abbrev pub ring : (h : R → Dig) → List (Item R) → List Leaf
+  abbrev pub ring : (h : R → Dig) → List (ListItem R) → List Leaf
   ring h [] = []
-  ring h (item a r ∷ l) = chainOf h a r l a
+  ring h (itemWith a r ∷ l) = chainOf h a r l a

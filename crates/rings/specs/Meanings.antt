@@ -9,7 +9,7 @@ use Rattle.seqs.specs.Bytes.{same}
 use Rattle.paper.specs.declared.Record.{Record}
 use Rattle.paper.specs.Strings.{Dig, nought, emptyRecord, blank, Memo, u1, v1, u2, ei, Str, leaf, node, entry}
 use Rattle.rings.specs.Trees.{points, Tree, empty, tip, branch, leaves, Permuted}
-use Rattle.rings.specs.Lists.{Item, item, Ascending, ring}
+use Rattle.rings.specs.Lists.{ListItem, itemWith, Ascending, ring}
 use Rattle.rings.specs.Changes.{Step, doSteps, reversed, LegalSteps}
 
 -- ── strings formed ──
@@ -29,9 +29,9 @@ pub data Sibling : Type 0 where
   right : Dig → Sibling
 
 -- P holds of every record of a list
-abbrev pub AllRecords : {R : Type 0} → (R → Type 0) → List (Item R) → Type 0
+abbrev pub AllRecords : {R : Type 0} → (R → Type 0) → List (ListItem R) → Type 0
 AllRecords P [] = Unit {0}
-AllRecords P (item a r ∷ l) = P r × AllRecords P l
+AllRecords P (itemWith a r ∷ l) = P r × AllRecords P l
 
 module _ (D : Str → Dig) where
   -- ── digests that stand above others ──
@@ -94,15 +94,15 @@ module _ (D : Str → Dig) where
   -- ── a tree that stands for a list ──
 
   -- a tree's hash, and its strings are among F
-  abbrev pub hash : Tree → Dig
-  hash empty = nought
-  hash (tip (points a b w)) = D (leaf a b w)
-  hash (branch l r) = above (hash l) (hash r)
+  abbrev pub hashOfTree : Tree → Dig
+  hashOfTree empty = nought
+  hashOfTree (tip (points a b w)) = D (leaf a b w)
+  hashOfTree (branch l r) = above (hashOfTree l) (hashOfTree r)
 
   abbrev pub TreeIn : List Str → Tree → Type 0
   TreeIn F empty = Unit {0}
   TreeIn F (tip (points a b w)) = leaf a b w ∈ F
-  TreeIn F (branch l r) = TreeIn F l × TreeIn F r × NodeIn F (hash l) (hash r)
+  TreeIn F (branch l r) = TreeIn F l × TreeIn F r × NodeIn F (hashOfTree l) (hashOfTree r)
 
   -- "Its hash is 0 if v1 is 0, else the digest": this is paper's `recordHash` (`proofs/Bridge`)
   unfoldable pub hashRecord : Record → Dig
@@ -114,7 +114,7 @@ module _ (D : Str → Dig) where
     known-recorded : r .revision .0 ≢ 0 → entry r ∈ F → Known F r
 
   -- the tree's strings and those of the records are formed, and the tree's leaves are the ring of the list in some order
-  pub record StandsFor (F : List Str) (T : Tree) (ls : List (Item Record)) : Type 0 where
+  pub record StandsFor (F : List Str) (T : Tree) (ls : List (ListItem Record)) : Type 0 where
     pub tree-in : TreeIn F T
     pub ascending : Ascending 0 ls
     pub known : AllRecords (Known F) ls
@@ -128,9 +128,9 @@ module _ (D : Str → Dig) where
     vanishes : (s : Str) → s ∈ F → D s ≡ nought → Fault F
 
   -- a tree of hash y that stands for the list after the steps c, each of which was legal
-  pub record Moved (F : List Str) (y : Dig) (c : List Step) (ls : List (Item Record)) : Type 0 where
+  pub record Moved (F : List Str) (y : Dig) (c : List Step) (ls : List (ListItem Record)) : Type 0 where
     pub tree : Tree
-    pub tree-hash : hash tree ≡ y
+    pub tree-hash : hashOfTree tree ≡ y
     pub legal : LegalSteps c ls
     pub stands : StandsFor F tree (doSteps c ls)
 
@@ -138,7 +138,7 @@ module _ (D : Str → Dig) where
   -- fault can be shown
   abbrev pub Leads : List Str → (y y′ : Dig) → List Step → Type 0
   Leads F y y′ c =
-      (G : List Str) → Within F G → (T : Tree) (ls : List (Item Record)) → hash T ≡ y → StandsFor G T ls
+      (G : List Str) → Within F G → (T : Tree) (ls : List (ListItem Record)) → hashOfTree T ≡ y → StandsFor G T ls
       → Fault G ⊎ Moved G y′ c ls
 
   -- "EI: the two roots stand for equally good rings": the steps c lead from any tree of hash y to one of hash y', and back

@@ -15,12 +15,12 @@ use Rattle.paper.specs.Requests as Q
 use Rattle.paper.specs.Requests.{Request}
 use Rattle.paper.specs.Refusals.{noneFits, needs, carried}
 use Rattle.paper.specs.Answers as Does
-use Rattle.paper.specs.Answers.{Change, rooted, issue, answer}
+use Rattle.paper.specs.Answers.{ListChange, rooted, issue, answer}
 use Rattle.rings.specs.Changes.{Step, insertion, removal, doSteps, reversed}
 use Rattle.runs.specs.Run.{Issue, meaning, World}
 use Rattle.runs.specs.Sizes.{InEightBytes}
 use Rattle.runs.specs.Ways.{Fork, leftOne, rightOne, Edit}
-use Rattle.runs.specs.Honest.{sayU2, sayEI, turned, note, turnRound, takeOver, relinked, gone, onLeftFoot, onRightFoot, without, placed, alone}
+use Rattle.runs.specs.Honest.{sayU2, sayEI, turnedRound, note, turnRound, takeOver, relinked, gone, onLeftFoot, onRightFoot, without, placed, alone}
 use Rattle.runs.specs.Liveness.{AllIssued}
 use Rattle.runs.proofs.Accepted.{NoneFails}
 use Rattle.runs.proofs.Parts.{IsDigest}
@@ -43,7 +43,7 @@ module _ (D : List ℕ → Dig) where
     pub book : List Issue
     pub leads : Leads D w qs (at w formed (record { memorandum = note D (w .registers) t; does = c } ∷ book))
 
-  pub heads-line : (w : World) (q : Request) (shown : List ℕ) (before : List Str) (t : Memo) (c : Change) → Sendable q
+  pub heads-line : (w : World) (q : Request) (shown : List ℕ) (before : List Str) (t : Memo) (c : ListChange) → Sendable q
       → NoneFails (needs D (w .registers) q) → AllIssued (carried D (w .registers) q) (w .book)
       → answer D (w .registers) q ≡ issue D (w .registers) shown before t c → Heads w (q ∷ []) t (meaning (w .book) c)
   heads-line w q shown before t c ok n i e =
@@ -65,15 +65,15 @@ module _ {D : List ℕ → Dig} {w : World} (r : Ready D w) where
   -- ── 09 turn ──
 
   pub turn-last : (qs : List Request) (y : Edit) (c : List Step) → IsEdit y → Heads D w qs (sayEI y) c
-      → Heads D w (qs ++ (turnRound D s y ∷ [])) (sayEI (turned y)) (reversed c)
+      → Heads D w (qs ++ (turnRound D s y ∷ [])) (sayEI (turnedRound y)) (reversed c)
   turn-last qs y c hy h =
       let m = note D s (sayEI y) in
       let q = turnRound D s y in
       let b : List Issue = record { memorandum = m; does = c } ∷ h .book in
       let v = at w (h .formed) b in
       heads-behind D (h .leads)
-      (subst (λ (d : List Step). Heads D v (q ∷ []) (sayEI (turned y)) (reversed d)) (head-stands D m c (h .book))
-      (heads-line D v q [] [] (sayEI (turned y)) (Does.reverses m) (hy .old and hy .new and note-digest r (sayEI y) and tt)
+      (subst (λ (d : List Step). Heads D v (q ∷ []) (sayEI (turnedRound y)) (reversed d)) (head-stands D m c (h .book))
+      (heads-line D v q [] [] (sayEI (turnedRound y)) (Does.reverses m) (hy .old and hy .new and note-digest r (sayEI y) and tt)
       (is-open r and fits-own r (sayEI y) and tt) (head-issued D m c (h .book), tt) refl))
 
   -- ── 0b adopt ──

@@ -17,7 +17,7 @@ use Rattle.paper.specs.Refusals.{leafOf, needs}
 use Rattle.paper.specs.Answers.{findingOf}
 use Rattle.paper.specs.Module.{Told}
 use Rattle.rings.specs.Trees.{Leaf, points, Tree, empty, tip, branch, leaves, hashOf, count}
-use Rattle.rings.specs.Lists.{item, Listed}
+use Rattle.rings.specs.Lists.{itemWith, OnList}
 use Rattle.rings.proofs.Counting.{one-self, count-nil, count-cons, count-append, occurs}
 use Rattle.rings.proofs.Gaps.{gap-holds, gap-tells}
 use Rattle.rings.proofs.Items.{listed?}
@@ -68,7 +68,7 @@ module _ {D : List ℕ → Dig} {w : World} {T : Tree} (g : Ground D w T) where
   -- ── a leaf that tells of q ──
 
   -- q's own leaf, or the one whose gap holds q
-  tells : (q : ℕ) → 0 < q → (a : ℕ) (r : Record) (l : Items) → w .items ≡ item a r ∷ l → has (tellsOf q) T ≡ true
+  tells : (q : ℕ) → 0 < q → (a : ℕ) (r : Record) (l : Items) → w .items ≡ itemWith a r ∷ l → has (tellsOf q) T ≡ true
   tells q h a r l e =
       elim (listed? q (w .items)) [
         | inr t ↦ (
@@ -126,7 +126,7 @@ module _ {D : List ℕ → Dig} {w : World} {T : Tree} (g : Ground D w T) where
         is-open (g .ready) and not-zero q positive and not-zero A (above-zero g A (t .held) (t .listed)) and not-zero A′ (t .next-positive)
         and d .well-formed and rw (t .passes) refl and fits-own (g .ready) (v1 x y) and at-root y (s .root) e and tt in
         let on = subst (InRing D w) (at-z z (recordHash D r) (ap (recordHash D) k ∙ t .hash-is)) (t .in-ring) in
-        let listed : Listed A r (w .items) = subst (λ (u : Record). Listed A u (w .items)) (sym k) (t .listed) in
+        let listed : OnList A r (w .items) = subst (λ (u : Record). OnList A u (w .items)) (sym k) (t .listed) in
         let true-of = true-finding D (λ l. DD l .wide) (w .formed) (w .items) q A A′ r (d .well-formed) (t .passes) (
           listed,
           (λ c j. gap-free (recordHash D) c A A′ (recordHash D r) (w .items) (g .ascending) (gap-holds c A A′ j) on),
@@ -156,4 +156,4 @@ module _ {D : List ℕ → Dig} {w : World} {T : Tree} (g : Ground D w T) where
       where
         by-items : (l : Items) → w .items ≡ l → Answers q (askLines D s q T l)
         by-items [] e = none-at-all e
-        by-items (item b r ∷ l) e = subst (λ (m : Items). Answers q (leafLines D s q T m)) e (by-leaf (tells q positive b r l e))
+        by-items (itemWith b r ∷ l) e = subst (λ (m : Items). Answers q (leafLines D s q T m)) e (by-leaf (tells q positive b r l e))

@@ -18,11 +18,11 @@ use Rattle.paper.specs.Refusals.{replyRoom, leafOf, needs}
 use Rattle.paper.specs.Answers.{findingOf, findingBytes}
 use Rattle.paper.specs.Module.{Told, answerTo}
 use Rattle.rings.specs.Trees.{Leaf, points}
-use Rattle.rings.specs.Lists.{Item, item, Listed, Unlisted}
+use Rattle.rings.specs.Lists.{ListItem, itemWith, OnList, Unlisted}
 use Rattle.runs.specs.Run.{World}
 use Rattle.runs.specs.Safety.{Neighbours}
 use Rattle.runs.specs.Frames.{recordBytes}
-use Rattle.runs.specs.ByHand.{rotor, small, wishes, findings, EveryRow, questions, EveryReply, ByHand}
+use Rattle.runs.specs.ByHand.{rotor, small, wishes, findings, EveryListRow, questions, EveryReply, ListByHand}
 use Rattle.runs.specs.Sizes.{InEightBytes, RecordFits}
 use Rattle.runs.proofs.Parts.{IsDigest}
 use Rattle.runs.proofs.Accepted.{NoneFails}
@@ -31,28 +31,28 @@ use Rattle.runs.proofs.Fed.{told-is}
 
 -- ── what is listed ──
 
-at-5 : Listed 5 emptyRecord small
+at-5 : OnList 5 emptyRecord small
 at-5 = List·Memᴰ·head refl
 
-at-9 : Listed 9 rotor small
+at-9 : OnList 9 rotor small
 at-9 = List·Memᴰ·tail (List·Memᴰ·head refl)
 
-abbrev numberIn : Item Record → ℕ
-numberIn (item A r) = A
+abbrev numberIn : ListItem Record → ℕ
+numberIn (itemWith A r) = A
 
-abbrev recordIn : Item Record → Record
-recordIn (item A r) = r
+abbrev recordIn : ListItem Record → Record
+recordIn (itemWith A r) = r
 
-no-other : {A : ℕ} {r : Record} → A ≢ 5 → A ≢ 9 → Listed A r small → ⊥
+no-other : {A : ℕ} {r : Record} → A ≢ 5 → A ≢ 9 → OnList A r small → ⊥
 no-other n m (List·Memᴰ·head e) = n (ap numberIn e)
 no-other n m (List·Memᴰ·tail (List·Memᴰ·head e)) = m (ap numberIn e)
 
 -- the only record that an item has, and its numbers
-only-at-5 : {r : Record} → Listed 5 r small → r ≡ emptyRecord
+only-at-5 : {r : Record} → OnList 5 r small → r ≡ emptyRecord
 only-at-5 (List·Memᴰ·head e) = ap recordIn e
 only-at-5 (List·Memᴰ·tail (List·Memᴰ·head e)) = absurd (omega (arith, ap numberIn e))
 
-only-at-9 : {r : Record} → Listed 9 r small → r ≡ rotor
+only-at-9 : {r : Record} → OnList 9 r small → r ≡ rotor
 only-at-9 (List·Memᴰ·head e) = absurd (omega (arith, ap numberIn e))
 only-at-9 (List·Memᴰ·tail (List·Memᴰ·head e)) = ap recordIn e
 
@@ -93,7 +93,7 @@ module _ (D : List ℕ → Dig) where
 
   -- ── the rows ──
 
-  legal : EveryRow D wishes
+  legal : EveryListRow D wishes
   legal =
       -- insert
       omega arith
@@ -133,7 +133,7 @@ module _ (D : List ℕ → Dig) where
       and (λ h. omega (arith, h .1))
       and tt
 
-  true-findings : EveryRow D findings
+  true-findings : EveryListRow D findings
   unfolding inGap
   true-findings =
       -- a record
@@ -204,5 +204,5 @@ module _ (D : List ℕ → Dig) (D32 : (l : List ℕ) → length (D l) ≡ 32) (
       and (λ s o n b. reply 7 5 9 emptyRecord s o n b (omega arith) (omega arith) (omega arith) small-none refl refl refl refl refl)
       and tt
 
-pub by-hand : ByHand
+pub by-hand : ListByHand
 by-hand = record { legal = legal; true-findings = true-findings; replies = replies }

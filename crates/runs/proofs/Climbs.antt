@@ -13,7 +13,7 @@ use Rattle.paper.specs.declared.Record.{Record}
 use Rattle.paper.specs.Strings.{Dig, nought, node, entry, enc, digest, blank, recordHash, H, up, foldUp}
 use Rattle.paper.specs.Requests.{mostSiblings}
 use Rattle.rings.specs.Trees.{points, Tree, empty, tip, branch, hashOf}
-use Rattle.runs.specs.Ways.{onLeft, onRight, Way, sidesOf, siblingsOf, rise, cut, Fork, Edit, risen, parents, risenTwo}
+use Rattle.runs.specs.Ways.{onLeft, onRight, Way, sidesOf, siblingsOf, rise, inPaths, Fork, Edit, risen, parents, risenTwo}
 use Rattle.runs.proofs.Parts.{IsDigest, AllDigests}
 
 -- ── sides ──
@@ -57,12 +57,12 @@ abbrev pub AllShort : List Way → Type 0
 AllShort [] = Unit {0}
 AllShort (p ∷ ps) = (length p ≤ mostSiblings) × AllShort ps
 
-pub cut-whole : (room : ℕ) (p : Way) → cut room p .lowest ++ whole (cut room p .higher) ≡ p
+pub cut-whole : (room : ℕ) (p : Way) → inPaths room p .lowest ++ whole (inPaths room p .higher) ≡ p
 cut-whole room [] = refl
 cut-whole zero (v ∷ p) = ap (λ (q : Way). v ∷ q) (cut-whole _ p)
 cut-whole (suc room) (v ∷ p) = ap (λ (q : Way). v ∷ q) (cut-whole room p)
 
-pub cut-short : (room : ℕ) (p : Way) → room ≤ mostSiblings → (length (cut room p .lowest) ≤ room) × AllShort (cut room p .higher)
+pub cut-short : (room : ℕ) (p : Way) → room ≤ mostSiblings → (length (inPaths room p .lowest) ≤ room) × AllShort (inPaths room p .higher)
 cut-short room [] h = (omega arith, tt)
 cut-short zero (v ∷ p) h = let t = cut-short 63 p (omega arith) in (omega arith, (omega (arith, t .0), t .1))
 cut-short (suc room) (v ∷ p) h = let t = cut-short room p (omega arith) in (omega (arith, t .0), t .1)

@@ -10,8 +10,8 @@ use Rattle.paper.specs.declared.Registers.{Registers}
 use Rattle.paper.specs.Strings.{Dig, Str}
 use Rattle.paper.specs.Refusals.{carried}
 use Rattle.rings.specs.Meanings.{Within}
-use Rattle.runs.specs.Run.{Turn, last, ofRuns, Issue, isIssued, World, toldAt, next, after}
-use Rattle.runs.specs.Endings.{Forged, Ending, collision, zero, forged, earlier}
+use Rattle.runs.specs.Run.{LineTurn, last, ofRuns, Issue, isIssued, World, toldAt, next, after}
+use Rattle.runs.specs.Endings.{Forged, Ending, byCollision, byZeroDigest, byForgery, earlier}
 use Rattle.runs.specs.Liveness.{latestFirst, AllIssued, Honest}
 use Rattle.runs.specs.Also.{onwards, Shown, AnyForged, EndingIs, NotEndedBeforeOpen, NotEndedByOpening, HonestEndsNothing}
 use Rattle.runs.proofs.Lines.{asked}
@@ -34,10 +34,10 @@ module _ (D : List ℕ → Dig) where
   shown-more F G s (inr z) =
       inr (record { string = z .string; string-formed = s (z .string) (z .string-formed); zero-digest = z .zero-digest })
 
-  ways-out : {k : Dig} {ts : List Turn} → Ending D k ts → Shown D (after D k ts .formed) ⊎ AnyForged D k ts
-  ways-out (collision c) = inl (inl c)
-  ways-out (zero z) = inl (inr z)
-  ways-out (forged t f) = inr (inl f)
+  ways-out : {k : Dig} {ts : List LineTurn} → Ending D k ts → Shown D (after D k ts .formed) ⊎ AnyForged D k ts
+  ways-out (byCollision c) = inl (inl c)
+  ways-out (byZeroDigest z) = inl (inr z)
+  ways-out (byForgery t f) = inr (inl f)
   ways-out {k} (earlier {ts = ts} t e) = later (ways-out e)
     where
       more : Within (after D k ts .formed) (after D k (t ∷ ts) .formed)
@@ -51,12 +51,12 @@ module _ (D : List ℕ → Dig) where
   none-shown (inl c) = elim (c .one-formed) [ ]
   none-shown (inr z) = elim (z .string-formed) [ ]
 
-  shown-ends : (k : Dig) (ts : List Turn) → Shown D (after D k ts .formed) → Ending D k ts
-  shown-ends k ts (inl c) = collision c
-  shown-ends k ts (inr z) = zero z
+  shown-ends : (k : Dig) (ts : List LineTurn) → Shown D (after D k ts .formed) → Ending D k ts
+  shown-ends k ts (inl c) = byCollision c
+  shown-ends k ts (inr z) = byZeroDigest z
 
-  forged-ends : (k : Dig) (ts : List Turn) → AnyForged D k ts → Ending D k ts
-  forged-ends k (t ∷ ts) (inl f) = forged t f
+  forged-ends : (k : Dig) (ts : List LineTurn) → AnyForged D k ts → Ending D k ts
+  forged-ends k (t ∷ ts) (inl f) = byForgery t f
   forged-ends k (t ∷ ts) (inr x) = earlier t (forged-ends k ts x)
 
   pub ending-is : EndingIs D
@@ -70,16 +70,16 @@ module _ (D : List ℕ → Dig) where
   issued-in m (n ∷ ms) b (List·Memᴰ·tail i) h = issued-in m ms b i (h .1)
 
   -- what an honest line carries was issued, by whichever reading
-  not-forged : (v w : World) (t : Turn) → Alike v w → AllIssued (carried D (v .registers) (asked t)) (v .book) → Forged D w t → ⊥
+  not-forged : (v w : World) (t : LineTurn) → Alike v w → AllIssued (carried D (v .registers) (asked t)) (v .book) → Forged D w t → ⊥
   not-forged v w t a h f =
       let i = subst (λ (r : Registers). List·Memᴰ (f .memorandum) (carried D r (asked t))) (sym (a .registers)) (f .carries) in
       true≢false (sym (issued-in (f .memorandum) _ (v .book) i h) ∙ a .issued (f .memorandum) ∙ f .unissued)
 
-  stays-formed : (k : Dig) (us ts : List Turn) → Within (after D k ts .formed) (after D k (onwards us ts) .formed)
+  stays-formed : (k : Dig) (us ts : List LineTurn) → Within (after D k ts .formed) (after D k (onwards us ts) .formed)
   stays-formed k [] ts s i = i
   stays-formed k (t ∷ us) ts s i = stays-formed k us (t ∷ ts) s (Memᴰ·append-right (toldAt D (after D k ts) t .formed) i)
 
-  honest-on : (k : Dig) (us ts : List Turn) (v : World) → Alike v (after D k ts) → Honest D v us → Ending D k (onwards us ts)
+  honest-on : (k : Dig) (us ts : List LineTurn) (v : World) → Alike v (after D k ts) → Honest D v us → Ending D k (onwards us ts)
       → Ending D k ts ⊎ Shown D (after D k (onwards us ts) .formed)
   honest-on k [] ts v a h e = inl e
   honest-on k (t ∷ us) ts v a h e =
@@ -102,7 +102,7 @@ module _ (D : List ℕ → Dig) where
 -- ── before opening, and by it ──
 
 module _ (D : List ℕ → Dig) (D32 : (l : List ℕ) → length (D l) ≡ 32) where
-  was-shut : (k : Dig) (ts : List Turn) (t : Turn) → after D k (t ∷ ts) .registers .opened ≡ false
+  was-shut : (k : Dig) (ts : List LineTurn) (t : LineTurn) → after D k (t ∷ ts) .registers .opened ≡ false
       → after D k ts .registers .opened ≡ false
   was-shut k ts t o = by-open (after D k ts .registers .opened) refl
     where
@@ -110,12 +110,12 @@ module _ (D : List ℕ → Dig) (D32 : (l : List ℕ) → length (D l) ≡ 32) w
       by-open true e = absurd (true≢false (sym (stays-open D D32 (after D k ts) t e) ∙ o))
       by-open false e = refl
 
-  shut-not-forged : (k : Dig) (ts : List Turn) (t : Turn) → after D k ts .registers .opened ≡ false → Forged D (after D k ts) t → ⊥
+  shut-not-forged : (k : Dig) (ts : List LineTurn) (t : LineTurn) → after D k ts .registers .opened ≡ false → Forged D (after D k ts) t → ⊥
   shut-not-forged k ts t o f =
       let none = at-shut D D32 k (after D k ts) t (side D D32 k ts) o .carries-none (f .accepted) in
       elim (subst (List·Memᴰ (f .memorandum)) none (f .carries)) [ ]
 
-  none-forged : (k : Dig) (ts : List Turn) → after D k ts .registers .opened ≡ false → AnyForged D k ts → ⊥
+  none-forged : (k : Dig) (ts : List LineTurn) → after D k ts .registers .opened ≡ false → AnyForged D k ts → ⊥
   none-forged k [] o x = x
   none-forged k (t ∷ ts) o x =
       let shut = was-shut k ts t o in

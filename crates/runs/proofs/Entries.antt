@@ -12,10 +12,10 @@ use Rattle.seqs.specs.Choose.{both-true, _and_}
 use Rattle.hex.specs.Hex.{bytesOf}
 use Rattle.paper.specs.Strings.{Dig, Memo, memorandum, foldUp}
 use Rattle.paper.specs.Requests.{Request, sidesIn, siblingsIn, Kind, kinds, kindOf, known, rowOf, part, requestOf}
-use Rattle.paper.specs.Answers.{Change, Effect, issues, answer}
+use Rattle.paper.specs.Answers.{ListChange, Effect, issues, answer}
 use Rattle.paper.specs.Module.{Told}
 use Rattle.paper.proofs.Memoranda.{memorandum-32}
-use Rattle.runs.specs.Run.{Turn, Issue, ofRuns, meaning, World, issuedBy, toldAt, next, after}
+use Rattle.runs.specs.Run.{LineTurn, Issue, ofRuns, meaning, World, issuedBy, toldAt, next, after}
 use Rattle.runs.specs.Also.{lastOf, Entered, BookGrows}
 use Rattle.runs.proofs.Book.{entered-none}
 use Rattle.runs.proofs.Lines.{asked, kindIn, Sorted, refusal, acceptance, sorted, accepted-known}
@@ -26,7 +26,7 @@ module _ (D : List ℕ → Dig) where
   -- what a request's answer lists and does: the memorandum behind what is shown, or nothing that the book would take
   abbrev Issues : World → Bool → Request → Type 0
   Issues w true q =
-      (t : Memo) × (c : Change) × (shown : List ℕ) × (answer D (w .registers) q .effect ≡ issues t c)
+      (t : Memo) × (c : ListChange) × (shown : List ℕ) × (answer D (w .registers) q .effect ≡ issues t c)
       × (answer D (w .registers) q .lists ≡ shown ++ memorandum D t (w .registers .secret))
   Issues w false q = issuedBy D w (answer D (w .registers) q .effect) ≡ []
 
@@ -72,7 +72,7 @@ module _ (D : List ℕ → Dig) (D32 : (l : List ℕ) → length (D l) ≡ 32) w
       let n : length ((b ∷ shown) ++ m) - 32 ≡ length (b ∷ shown) = omega (arith, length-append (b ∷ shown) m) in
       sym (ap (lastOf 32) e ∙ drop-at (b ∷ shown) m (length ((b ∷ shown) ++ m) - 32) (sym n))
 
-  enters : (w : World) (t : Turn) → Entered D w t (next D ofRuns w t .book)
+  enters : (w : World) (t : LineTurn) → Entered D w t (next D ofRuns w t .book)
   enters w t = by-sort (sorted D (w .registers) (t .line) (t .space))
     where
       f : List ℕ

@@ -11,11 +11,11 @@ use Rattle.paper.specs.declared.Registers.{Registers}
 use Rattle.paper.specs.Strings.{Dig, Memo, Str, memorandum, memorandumForms}
 use Rattle.paper.specs.Requests.{Request, kindOf, known, fits, requestOf}
 use Rattle.paper.specs.Refusals.{replyRoom, noneFits, needs, passed, judge, carried}
-use Rattle.paper.specs.Answers.{Change, Answer, issue, answer}
+use Rattle.paper.specs.Answers.{ListChange, Answer, issue, answer}
 use Rattle.paper.specs.Module.{Told, told}
 use Rattle.rings.specs.Changes.{Step}
 use Rattle.runs.specs.Run.{Items, last, Issue, standsFor, isIssued, meaning, World, toldAt, landed, next}
-use Rattle.runs.specs.Frames.{written, frameOf, turnOf, turnsOf}
+use Rattle.runs.specs.Frames.{partsOf, frameOf, turnOf, turnsOf}
 use Rattle.runs.specs.Honest.{note}
 use Rattle.runs.specs.Liveness.{AllIssued, fed, Honest}
 use Rattle.runs.proofs.Accepted.{NoneFails, formedAll, all-pass, judge-passed}
@@ -63,7 +63,7 @@ module _ (D : List ℕ → Dig) where
     asked-is = let r = reads-back q ok in ap requestOf (line-is-frame q r) ∙ r .read
 
     pub told-is : NoneFails (needs D s q)
-        → toldAt D w (turnOf q) ≡ told D s (written q .kind) q (passed (formedAll late [] (needs D s q)))
+        → toldAt D w (turnOf q) ≡ told D s (partsOf q .kind) q (passed (formedAll late [] (needs D s q)))
     told-is n =
         let r = reads-back q ok in
         let e = line-is-frame q r in
@@ -71,12 +71,12 @@ module _ (D : List ℕ → Dig) where
         (subst (λ (f : List ℕ). known (kindOf f) ≡ true) (sym e) (r .kind-known))
         (subst (λ (f : List ℕ). fits f ≡ true) (sym e) (r .fit))
         ∙ ap (λ (f : List ℕ). told D s (kindOf f) (requestOf f) (judge late [] (needs D s (requestOf f)))) e
-        ∙ ap (λ (p : Request). told D s (written q .kind) p (judge late [] (needs D s p))) (r .read)
-        ∙ ap (told D s (written q .kind) q) (judge-passed late [] (needs D s q) (all-pass late (needs D s q) n))
+        ∙ ap (λ (p : Request). told D s (partsOf q .kind) p (judge late [] (needs D s p))) (r .read)
+        ∙ ap (told D s (partsOf q .kind) q) (judge-passed late [] (needs D s q) (all-pass late (needs D s q) n))
 
     -- the line is accepted and honest, and the world after it is the one that its answer leaves
     pub leads-one : NoneFails (needs D s q) → AllIssued (carried D s q) (w .book)
-        → Leads w (q ∷ []) (landed D last w (told D s (written q .kind) q (passed (formedAll late [] (needs D s q)))))
+        → Leads w (q ∷ []) (landed D last w (told D s (partsOf q .kind) q (passed (formedAll late [] (needs D s q)))))
     leads-one n i =
         record {
           to = ap (landed D last w) (told-is n);
@@ -89,7 +89,7 @@ module _ (D : List ℕ → Dig) where
 
     -- a memorandum issued stands first in the book
     pub issued-first : NoneFails (needs D s q) → AllIssued (carried D s q) (w .book)
-        → (shown : List ℕ) (before : List Str) (t : Memo) (c : Change) → answer D s q ≡ issue D s shown before t c
+        → (shown : List ℕ) (before : List Str) (t : Memo) (c : ListChange) → answer D s q ≡ issue D s shown before t c
         → (F : List Str)
         × Leads w (q ∷ []) (at w F (record { memorandum = note D s t; does = meaning (w .book) c } ∷ w .book))
     issued-first n i shown before t c e =
@@ -101,7 +101,7 @@ module _ (D : List ℕ → Dig) where
                 l .to
                 ∙ ap (λ (a : Answer). landed D last w (record {
                   refusal = 0;
-                  says = (0x80 + written q .kind) ∷ a .lists;
+                  says = (0x80 + partsOf q .kind) ∷ a .lists;
                   after = a .after;
                   formed = a .forms ++ fs;
                   effect = a .effect;
@@ -155,7 +155,7 @@ module _ (D : List ℕ → Dig) where
       }
 
   -- a line that issues
-  pub say : (w : World) (q : Request) (shown : List ℕ) (before : List Str) (t : Memo) (c : Change) → Sendable q
+  pub say : (w : World) (q : Request) (shown : List ℕ) (before : List Str) (t : Memo) (c : ListChange) → Sendable q
       → NoneFails (needs D (w .registers) q) → AllIssued (carried D (w .registers) q) (w .book)
       → answer D (w .registers) q ≡ issue D (w .registers) shown before t c → Got w (q ∷ []) t
   say w q shown before t c ok n i e =

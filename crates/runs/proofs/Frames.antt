@@ -16,7 +16,7 @@ use Rattle.paper.specs.Strings.{Dig}
 use Rattle.paper.specs.Requests as Q
 use Rattle.paper.specs.Requests.{Request, Carried, aDigest, sidesIn, Kind, kinds, kindOf, known, rowOf, takesAll, fits, requestOf, mostSiblings}
 use Rattle.paper.specs.Refusals.{isHex, longestFrame, longestLine}
-use Rattle.runs.specs.Frames.{together, pathBytes, written, frameOf}
+use Rattle.runs.specs.Frames.{together, pathBytes, partsOf, frameOf}
 use Rattle.runs.specs.Sizes.{InEightBytes, ValuesFit, RecordFits}
 use Rattle.runs.proofs.Parts.{AllDigests, ShapedAll, most, shaped-row, part-at, shaped-number, shaped-digest, shaped-record, shaped-values, sides-small, sides-back, shaped-path, siblings-back, record-back, values-back}
 
@@ -55,13 +55,13 @@ abbrev listed : (kind : ℕ) → Bool
 listed k = both (known k) (ltb (most (rowOf k .carries)) longestFrame)
 
 -- by its row
-by-row : (q : Request) → listed (written q .kind) ≡ true → ShapedAll (rowOf (written q .kind) .carries) (written q .parts)
-    → rowOf (written q .kind) .reads (λ i. getD (written q .parts) i []) ≡ q → ReadsBack q
+by-row : (q : Request) → listed (partsOf q .kind) ≡ true → ShapedAll (rowOf (partsOf q .kind) .carries) (partsOf q .parts)
+    → rowOf (partsOf q .kind) .reads (λ i. getD (partsOf q .parts) i []) ≡ q → ReadsBack q
 unfolding fits requestOf known kinds
 by-row q k h e =
-    let kind = written q .kind in
+    let kind = partsOf q .kind in
     let row : Kind = rowOf kind in
-    let ps = written q .parts in
+    let ps = partsOf q .parts in
     let in-table = both-true (known kind) (ltb (most (row .carries)) longestFrame) k in
     let low = leb-true kind (length kinds) (both-true (leb 1 kind) (leb kind (length kinds)) (in-table .0) .1) in
     let all = shaped-row (row .carries) ps h in
@@ -85,11 +85,11 @@ shaped-digests : (l : List Dig) → AllDigests l → ShapedAll (digestsOnly l) l
 shaped-digests [] h = tt
 shaped-digests (d ∷ l) h = (shaped-digest d (h .0), shaped-digests l (h .1))
 
-of-digests : (q : Request) → AllDigests (written q .parts) → listed (written q .kind) ≡ true
-    → digestsOnly (written q .parts) ≡ rowOf (written q .kind) .carries
-    → rowOf (written q .kind) .reads (λ i. getD (written q .parts) i []) ≡ q → ReadsBack q
+of-digests : (q : Request) → AllDigests (partsOf q .parts) → listed (partsOf q .kind) ≡ true
+    → digestsOnly (partsOf q .parts) ≡ rowOf (partsOf q .kind) .carries
+    → rowOf (partsOf q .kind) .reads (λ i. getD (partsOf q .parts) i []) ≡ q → ReadsBack q
 of-digests q h k c e =
-    by-row q k (subst (λ (cs : List Carried). ShapedAll cs (written q .parts)) c (shaped-digests (written q .parts) h)) e
+    by-row q k (subst (λ (cs : List Carried). ShapedAll cs (partsOf q .parts)) c (shaped-digests (partsOf q .parts) h)) e
 
 pub reads-back : (q : Request) → Sendable q → ReadsBack q
 unfolding kinds known

@@ -10,7 +10,7 @@ use Rattle.seqs.specs.Choose.{pick}
 use Rattle.paper.specs.declared.Record.{Record}
 use Rattle.paper.specs.Strings.{Dig, nought, emptyRecord, recordHash}
 use Rattle.rings.specs.Trees.{Leaf, points, Tree, empty, tip, branch, leaves, one, count, Permuted}
-use Rattle.rings.specs.Lists.{Item, item, Listed, Unlisted, insert, remove, putRecord, ring}
+use Rattle.rings.specs.Lists.{ListItem, itemWith, OnList, Unlisted, insert, remove, putRecord, ring}
 use Rattle.rings.proofs.Counting.{count-nil, count-append, count-only}
 use Rattle.rings.proofs.Gaps.{gap-holds}
 use Rattle.rings.proofs.Items.{remove-head}
@@ -62,7 +62,7 @@ module _ {D : List ℕ → Dig} {w : World} {T : Tree} (g : Ground D w T) where
 
   -- ── set, clear ──
 
-  pub rewritten-holds : (A : ℕ) (r new : Record) → Listed A r (w .items)
+  pub rewritten-holds : (A : ℕ) (r new : Record) → OnList A r (w .items)
       → Permuted (leaves (treeRewritten D A new T)) (ring (recordHash D) (putRecord A new (w .items)))
   rewritten-holds A r new m v =
       let have = of-item g A r m in
@@ -102,7 +102,7 @@ module _ {D : List ℕ → Dig} {w : World} {T : Tree} (g : Ground D w T) where
       alone : w .items ≡ [] → count v (points A A nought ∷ []) ≡ count v (ring (recordHash D) (insert A emptyRecord (w .items)))
       alone e = rw (e, no-record-hash D) refl
 
-      beside : has (gapHolds A) T ≡ true → (i : Item Record) (l : Items)
+      beside : has (gapHolds A) T ≡ true → (i : ListItem Record) (l : Items)
           → count v (leaves (treeWith D A T (i ∷ l))) ≡ count v (ring (recordHash D) (insert A emptyRecord (w .items)))
       beside have i l =
           let t = spotted g (gapHolds A) have in
@@ -131,22 +131,22 @@ module _ {D : List ℕ → Dig} {w : World} {T : Tree} (g : Ground D w T) where
       by-items : (l : Items) → w .items ≡ l
           → count v (leaves (treeWith D A T l)) ≡ count v (ring (recordHash D) (insert A emptyRecord (w .items)))
       by-items [] e = alone e
-      by-items (item a r ∷ l) e = beside (gap-found g A a r l positive free e) (item a r) l
+      by-items (itemWith a r ∷ l) e = beside (gap-found g A a r l positive free e) (itemWith a r) l
 
   -- ── remove ──
 
-  pub without-holds : (A : ℕ) → Listed A emptyRecord (w .items)
+  pub without-holds : (A : ℕ) → OnList A emptyRecord (w .items)
       → Permuted (leaves (treeWithout D A T (w .items))) (ring (recordHash D) (remove A (w .items)))
   without-holds A m v = by-items (w .items) refl
     where
-      only : (a : ℕ) (r : Record) → w .items ≡ item a r ∷ [] → (item A emptyRecord ≡ item a r) ⊎ Listed A emptyRecord []
+      only : (a : ℕ) (r : Record) → w .items ≡ itemWith a r ∷ [] → (itemWith A emptyRecord ≡ itemWith a r) ⊎ OnList A emptyRecord []
           → count v [] ≡ count v (ring (recordHash D) (remove A (w .items)))
       only a r e (inl p) =
           let q : A ≡ a = cc in
           rw (e, q, remove-head a r []) refl
       only a r e (inr j) = elim j [ ]
 
-      between : Linked g A → (i j : Item Record) (l : Items)
+      between : Linked g A → (i j : ListItem Record) (l : Items)
           → count v (leaves (treeWithout D A T (i ∷ j ∷ l))) ≡ count v (ring (recordHash D) (remove A (w .items)))
       between k i j l =
           let x = found (leadsTo A) T in
@@ -168,5 +168,5 @@ module _ {D : List ℕ → Dig} {w : World} {T : Tree} (g : Ground D w T) where
       by-items : (l : Items) → w .items ≡ l → count v (leaves (treeWithout D A T l))
           ≡ count v (ring (recordHash D) (remove A (w .items)))
       by-items [] e = elim (rw e at m) [ ]
-      by-items (item a r ∷ []) e = only a r e (List·Memᴰ·cases-cons (rw e at m))
-      by-items (item a r ∷ item b t ∷ l) e = between (linked-in g A a b r t l m e) (item a r) (item b t) l
+      by-items (itemWith a r ∷ []) e = only a r e (List·Memᴰ·cases-cons (rw e at m))
+      by-items (itemWith a r ∷ itemWith b t ∷ l) e = between (linked-in g A a b r t l m e) (itemWith a r) (itemWith b t) l

@@ -17,7 +17,7 @@ use Rattle.paper.specs.Refusals.{replyRoom, isHex, Check, needs, formedAt, Verd
 use Rattle.paper.specs.Module.{Told, told, answerTo}
 use Rattle.paper.proofs.Early.{late, numbered-late, none-early}
 use Rattle.rings.specs.Meanings.{Within}
-use Rattle.runs.specs.Run.{Turn}
+use Rattle.runs.specs.Run.{LineTurn}
 use Rattle.runs.proofs.Accepted.{NoneApplies, none-applies, judge-passed, accepted-passed, number-formed}
 use Rattle.runs.proofs.Widths.{Wide, wide}
 
@@ -32,10 +32,10 @@ isPassed (refused n fs) = false
 isPassed (passed fs) = true
 
 -- the request of a line, and its kind
-abbrev pub asked : Turn → Request
+abbrev pub asked : LineTurn → Request
 asked t = requestOf (bytesOf (t .line))
 
-abbrev pub kindIn : Turn → ℕ
+abbrev pub kindIn : LineTurn → ℕ
 kindIn t = kindOf (bytesOf (t .line))
 
 module _ (D : List ℕ → Dig) (s : Registers) (line : List ℕ) (space : ℕ) where

@@ -18,14 +18,14 @@ use Rattle.rings.specs.Trees.{Tree, leaves, hashOf, Permuted}
 use Rattle.rings.specs.Lists.{Ascending, ring}
 use Rattle.rings.proofs.Nodes.{_>>=_}
 use Rattle.rings.proofs.Items.{insert-ascending, remove-ascending, put-ascending}
-use Rattle.runs.specs.Run.{Turn, Items, World, after}
+use Rattle.runs.specs.Run.{LineTurn, Items, World, after}
 use Rattle.runs.specs.Sizes.{ItemsFit}
 use Rattle.runs.specs.Wishes.{Wish, insertItem, removeItem, swapPlaces, setRecord, clearRecord, askAbout, Legal}
-use Rattle.runs.specs.Outcomes.{itemsAfter, registersAfter, Moved}
+use Rattle.runs.specs.Outcomes.{itemsAfter, registersAfter, LeavesMoved}
 use Rattle.runs.specs.Frames.{turnsOf}
 use Rattle.runs.specs.Honest.{honestLines}
 use Rattle.runs.specs.TreesAfter.{treeAfter}
-use Rattle.runs.specs.Liveness.{latestFirst, Spaced, lastReply, Answered, AllGrantable, LiveOrEnded, linesFor, Granted, FunctionsGrant, LivenessFor, Liveness}
+use Rattle.runs.specs.Liveness.{latestFirst, Spaced, lastReply, AnsweredTruly, AllGrantable, LiveOrEnded, linesFor, Granted, FunctionsGrant, LivenessFor, Liveness}
 use Rattle.runs.proofs.Parts.{bytes-append}
 use Rattle.runs.proofs.Sizes.{item-fits, insert-fits, remove-fits, put-fits, none-fits, none-well-formed, next-fits, next-well-formed}
 use Rattle.runs.proofs.Runs.{safety}
@@ -46,7 +46,7 @@ module _ (D : List ℕ → Dig) (D32 : (l : List ℕ) → length (D l) ≡ 32) (
 
     -- granted by the lines of `honestLines`, whatever their reply spaces
     abbrev GrantedBy : Wish → Type 0
-    GrantedBy x = (us : List Turn) → Spaced (linesFor D w T x) us → Granted D w T x us
+    GrantedBy x = (us : List LineTurn) → Spaced (linesFor D w T x) us → Granted D w T x us
 
     -- Lines that bring about the list and the registers wanted grant a wish, where the tree wanted has that list's ring.
     grants : (x : Wish) (n : ℕ)
@@ -54,8 +54,8 @@ module _ (D : List ℕ → Dig) (D32 : (l : List ℕ) → length (D l) ≡ 32) (
         let l = itemsAfter s (w .items) x in
         let s′ = registersAfter s (hashOf D U) x in
         Brings D w (honestLines D s T (w .items) x) s′ l n → hashOf D U ≡ s′ .root → s′ .counter .0 ≡ n → Ascending 0 l
-        → Permuted (leaves U) (ring (recordHash D) l) → ItemsFit l → Moved x T U
-        → Answered D x (w .items) (lastReply D w (turnsOf (honestLines D s T (w .items) x))) → GrantedBy x)
+        → Permuted (leaves U) (ring (recordHash D) l) → ItemsFit l → LeavesMoved x T U
+        → AnsweredTruly D x (w .items) (lastReply D w (turnsOf (honestLines D s T (w .items) x))) → GrantedBy x)
     grants x n b root counter up holds fits moved answered us spaced =
         let U = treeAfter D s T (w .items) x in
         let qs = honestLines D s T (w .items) x in
@@ -77,7 +77,7 @@ module _ (D : List ℕ → Dig) (D32 : (l : List ℕ) → length (D l) ≡ 32) (
             };
             registers = registers-are;
             moved = moved;
-            answered = subst (Answered D x (w .items)) (sym (reply-same D w qs us spaced)) answered;
+            answered = subst (AnsweredTruly D x (w .items)) (sym (reply-same D w qs us spaced)) answered;
           };
           tree = refl;
         }

@@ -14,7 +14,7 @@ use Rattle.paper.specs.Refusals.{noneFits}
 use Rattle.paper.specs.Answers as Does
 use Rattle.paper.specs.Answers.{rooted}
 use Rattle.rings.specs.Trees.{points, Tree, tip, branch, hashOf}
-use Rattle.rings.specs.Lists.{Item, item, Unlisted, insert}
+use Rattle.rings.specs.Lists.{ListItem, itemWith, Unlisted, insert}
 use Rattle.rings.specs.Changes.{insertion, removal}
 use Rattle.rings.proofs.Counting.{count-nil}
 use Rattle.rings.proofs.Gaps.{gap-tells}
@@ -24,7 +24,7 @@ use Rattle.runs.specs.Sizes.{InEightBytes}
 use Rattle.runs.specs.Wishes.{IsListed}
 use Rattle.runs.specs.Ways.{itemOf, nextOf, hashIn, isOf, gapHolds, has, found, wayTo, rise, Fork, forkOf, halves, leftOne, rightOne, Edit, risenTwo}
 use Rattle.runs.specs.TreesAfter.{treeWith, treeSwapped}
-use Rattle.runs.specs.Honest.{sayU2, sayEI, turned, note, twoPlaces, turnRound, takeOver, without, placed, alone, insertLines, swapLines}
+use Rattle.runs.specs.Honest.{sayU2, sayEI, turnedRound, note, twoPlaces, turnRound, takeOver, without, placed, alone, insertLines, swapLines}
 use Rattle.runs.proofs.Parts.{IsDigest}
 use Rattle.runs.proofs.Climbs.{record-digest, tree-digest, IsEdit, risen-two-is}
 use Rattle.runs.proofs.Places.{plug-two, rise-plug, rise-two, located, Forks, forked, regrown-one, regrown-two}
@@ -59,8 +59,8 @@ module _ {D : List ℕ → Dig} {w : World} {T : Tree} (g : Ground D w T) where
 
   -- what U2 says is what swap asks for
   swap-fits : (c : Bool) (e y : Edit)
-      → (let a = pick c (turned e) e in
-      let b = pick c e (turned e) in
+      → (let a = pick c (turnedRound e) e in
+      let b = pick c e (turnedRound e) in
       noneFits D (s .secret) (u2 (a .was) (b .was) (y .was) (b .was) (a .was) (y .becomes) ∷ []) (note D s (sayU2 a b y)) ≡ false)
   swap-fits true e y = note-fits D (s .secret) _ []
   swap-fits false e y = note-fits D (s .secret) _ []
@@ -85,15 +85,15 @@ module _ {D : List ℕ → Dig} {w : World} {T : Tree} (g : Ground D w T) where
       let f = forkOf (isOf A) (isOf B) T in
       let e : Edit = record { was = hashOf D (tip x); becomes = hashOf D (tip z) } in
       let he : IsEdit e = record { old = tree-digest DD (tip x); new = tree-digest DD (tip z) } in
-      let a = leftOne f e (turned e) in
-      let b = rightOne f e (turned e) in
-      let h = feet-are (g .ready) f e (turned e) he (record { old = he .new; new = he .old }) in
+      let a = leftOne f e (turnedRound e) in
+      let b = rightOne f e (turnedRound e) in
+      let h = feet-are (g .ready) f e (turnedRound e) he (record { old = he .new; new = he .old }) in
       let y = risenTwo D f a b in
       let hy = risen-two-is DD f a b (h .0) (h .1) in
       let was-root : y .was ≡ s .root =
-      feet (λ u. u .was) f e (turned e) (tip x) (tip z) refl refl ∙ ap (hashOf D) (two .1) ∙ g .root in
+      feet (λ u. u .was) f e (turnedRound e) (tip x) (tip z) refl refl ∙ ap (hashOf D) (two .1) ∙ g .root in
       let becomes-root : y .becomes ≡ hashOf D (treeSwapped D A B T) =
-      feet (λ u. u .becomes) f e (turned e) (tip z) (tip x) refl refl
+      feet (λ u. u .becomes) f e (turnedRound e) (tip z) (tip x) refl refl
       ∙ ap (hashOf D) (sym (regrown-two x (tip z) z (tip x) (two .0) f T (two .1) (once g x) (once g z))) in
       let t = sayU2 a b y in
       let q = Q.swap (a .was) (b .was) (y .was) (y .becomes) (note D s t) in
@@ -120,7 +120,7 @@ module _ {D : List ℕ → Dig} {w : World} {T : Tree} (g : Ground D w T) where
       (first-line (g .ready) A small positive)
 
   -- beside the leaf whose gap holds A
-  insert-beside : (A : ℕ) → InEightBytes A → 0 < A → has (gapHolds A) T ≡ true → (i : Item Record) (l : Items)
+  insert-beside : (A : ℕ) → InEightBytes A → 0 < A → has (gapHolds A) T ≡ true → (i : ListItem Record) (l : Items)
       → Brings D w (insertLines D s A T (i ∷ l)) (rooted s (hashOf D (treeWith D A T (i ∷ l))))
       (insert A emptyRecord (w .items))
       (w .changed)
@@ -139,16 +139,16 @@ module _ {D : List ℕ → Dig} {w : World} {T : Tree} (g : Ground D w T) where
       let h = place-lines (g .ready) f B A B′ ω (g .fits B (t .held) (t .listed) .number-fits) small (t .next-fits) hω
       (above-zero g B (t .held) (t .listed)) positive (t .next-positive) (t .passes) in
       let k = turn-last (g .ready) (placed D s f B A B′ ω) y (removal A ∷ []) hy h in
-      let r = adopt-last (g .ready) (placed D s f B A B′ ω ++ (turnRound D s y ∷ [])) (turned y) (insertion A ∷ [])
+      let r = adopt-last (g .ready) (placed D s f B A B′ ω ++ (turnRound D s y ∷ [])) (turnedRound y) (insertion A ∷ [])
       (record { old = hy .new; new = hy .old }) root k in
       let X = branch (tip (points B A ω)) (tip (points A B′ nought)) in
       let grown : y .was ≡ hashOf D (treeWith D A T (i ∷ l)) =
       rise-plug D p X ∙ ap (hashOf D) (sym (regrown-one x X p T (located (gapHolds A) T have .under-way) (once g x))) in
-      brings-also D (append-assoc (placed D s f B A B′ ω) (turnRound D s y ∷ []) (takeOver D s (turned y) ∷ []))
+      brings-also D (append-assoc (placed D s f B A B′ ω) (turnRound D s y ∷ []) (takeOver D s (turnedRound y) ∷ []))
       (ap (rooted s) grown) refl r
 
   -- the leaf whose gap holds an unlisted number
-  pub gap-found : (A a : ℕ) (r : Record) (l : Items) → 0 < A → Unlisted A (w .items) → w .items ≡ item a r ∷ l
+  pub gap-found : (A a : ℕ) (r : Record) (l : Items) → 0 < A → Unlisted A (w .items) → w .items ≡ itemWith a r ∷ l
       → has (gapHolds A) T ≡ true
   gap-found A a r l positive free e =
       let i = spot (recordHash D) A a r l positive (rw e at (g .ascending)) (rw e at free) in
@@ -164,4 +164,4 @@ module _ {D : List ℕ → Dig} {w : World} {T : Tree} (g : Ground D w T) where
           → Brings D w (insertLines D s A T l) (rooted s (hashOf D (treeWith D A T l))) (insert A emptyRecord (w .items))
           (w .changed)
       by-items [] e = insert-first A small positive e
-      by-items (item a r ∷ l) e = insert-beside A small positive (gap-found A a r l positive free e) (item a r) l
+      by-items (itemWith a r ∷ l) e = insert-beside A small positive (gap-found A a r l positive free e) (itemWith a r) l

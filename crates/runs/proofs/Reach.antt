@@ -15,7 +15,7 @@ use Rattle.paper.specs.Refusals.{noneFits}
 use Rattle.paper.specs.Answers as Does
 use Rattle.paper.proofs.Memoranda.{of-digests}
 use Rattle.runs.specs.Run.{Issue, isIssued, World}
-use Rattle.runs.specs.Ways.{Way, sidesOf, siblingsOf, rise, cut, Fork, Edit, risen, parents, risenTwo}
+use Rattle.runs.specs.Ways.{Way, sidesOf, siblingsOf, rise, inPaths, Fork, Edit, risen, parents, risenTwo}
 use Rattle.runs.specs.Honest.{sayU1, sayU2, note, pathUp, joinUp, further, onePlace, pairUp, raiseUp, twoPlaces}
 use Rattle.runs.proofs.Parts.{IsDigest}
 use Rattle.runs.proofs.Climbs.{siblings-length, sides-fit, fold-rises, rise-append, whole, AllShort, cut-whole, cut-short, IsEdit, siblings-digests, risen-is, parents-are}
@@ -118,7 +118,7 @@ module _ {D : List ℕ → Dig} {w : World} (r : Ready D w) where
   pub one-place : (F : List Str) (b : List Issue) (p : Way) (x : Edit) → IsEdit x
       → Got D (at w F b) (onePlace D s p x) (sayU1 x (risen D p x))
   one-place F b p x h =
-      let c = cut mostSiblings p in
+      let c = inPaths mostSiblings p in
       let short = cut-short mostSiblings p (omega arith) in
       let y = risen D (c .lowest) x in
       let g = path-line F b (c .lowest) x (short .0) h in

@@ -16,8 +16,8 @@ use Rattle.paper.specs.Module.{Told, answerTo}
 use Rattle.rings.specs.Meanings.{StandsFor, Fault}
 use Rattle.rings.proofs.Nodes.{_>>=_, instead}
 use Rattle.rings.proofs.InPaper.{same-list}
-use Rattle.runs.specs.Run.{Turn, Issue, Reading, earliest, last, ofRuns, entered, isIssued, World, issuedBy, toldAt, next, after}
-use Rattle.runs.specs.Endings.{Ending, forged, earlier}
+use Rattle.runs.specs.Run.{LineTurn, Issue, Reading, earliest, last, ofRuns, entered, isIssued, World, issuedBy, toldAt, next, after}
+use Rattle.runs.specs.Endings.{Ending, byForgery, earlier}
 use Rattle.runs.specs.Liveness.{latestFirst, fed}
 use Rattle.runs.specs.Also.{AllBacked, onwards, ReadingsAgree}
 use Rattle.runs.proofs.Safe.{Core}
@@ -68,7 +68,7 @@ alike-latest w =
     }
 
 module _ (D : List ℕ → Dig) where
-  told-alike : (v w : World) (t : Turn) → Alike v w → toldAt D v t ≡ toldAt D w t
+  told-alike : (v w : World) (t : LineTurn) → Alike v w → toldAt D v t ≡ toldAt D w t
   told-alike v w t a = ap (λ (r : Registers). answerTo D r (t .line) (t .space)) (a .registers)
 
   -- the memorandum that a line issues is the same in both
@@ -79,7 +79,7 @@ module _ (D : List ℕ → Dig) where
   issued-alike v w (adopts n) m h = refl
   issued-alike v w (changes A r) m h = refl
 
-  pub alike-next : (by by′ : Reading) (v w : World) (t : Turn) → Alike v w → Alike (next D by v t) (next D by′ w t)
+  pub alike-next : (by by′ : Reading) (v w : World) (t : LineTurn) → Alike v w → Alike (next D by v t) (next D by′ w t)
   alike-next by by′ v w t a =
       let e = told-alike v w t a in
       record {
@@ -95,7 +95,7 @@ module _ (D : List ℕ → Dig) where
 module _ (D : List ℕ → Dig) (D32 : (l : List ℕ) → length (D l) ≡ 32) where
   -- ── the invariant by either reading ──
 
-  core-next : (by : Reading) (k : Dig) (ts : List Turn) (v : World) (t : Turn) → Alike v (after D k ts) → Core D D32 v
+  core-next : (by : Reading) (k : Dig) (ts : List LineTurn) (v : World) (t : LineTurn) → Alike v (after D k ts) → Core D D32 v
       → Ending D k (t ∷ ts) ⊎ Core D D32 (next D by v t)
   core-next by k ts v t a c = by-out (line-out D D32 by v t c)
     where
@@ -103,7 +103,7 @@ module _ (D : List ℕ → Dig) (D32 : (l : List ℕ) → length (D l) ≡ 32) w
       by-out (inl (inl f)) =
           inl (shown D D32 k (t ∷ ts) (subst (Fault (digest D)) (alike-next D by ofRuns v (after D k ts) t a .formed) f))
       by-out (inl (inr x)) =
-          inl (forged t (record {
+          inl (byForgery t (record {
             accepted = ap (λ (y : Told). y .refusal) (sym (told-alike D v (after D k ts) t a)) ∙ x .0;
             memorandum = x .1 .0;
             carries = subst (λ (r : Registers). List·Memᴰ (x .1 .0) (carried D r (asked t))) (a .registers) (x .1 .1);
@@ -127,15 +127,15 @@ module _ (D : List ℕ → Dig) (D32 : (l : List ℕ) → length (D l) ≡ 32) w
 
   -- ── further lines ──
 
-  ended : (k : Dig) (us ts : List Turn) → Ending D k ts → Ending D k (onwards us ts)
+  ended : (k : Dig) (us ts : List LineTurn) → Ending D k ts → Ending D k (onwards us ts)
   ended k [] ts e = e
   ended k (t ∷ us) ts e = ended k us (t ∷ ts) (earlier t e)
 
   -- they come to a world that keeps the invariant and differs from the run's own in its reading alone
-  abbrev FedWell : (k : Dig) (us ts : List Turn) (v : World) → Type 0
+  abbrev FedWell : (k : Dig) (us ts : List LineTurn) (v : World) → Type 0
   FedWell k us ts v = Core D D32 (fed D v us) × Alike (fed D v us) (after D k (onwards us ts))
 
-  core-fed : (k : Dig) (us ts : List Turn) (v : World) → Alike v (after D k ts) → Core D D32 v
+  core-fed : (k : Dig) (us ts : List LineTurn) (v : World) → Alike v (after D k ts) → Core D D32 v
       → Ending D k (onwards us ts) ⊎ FedWell k us ts v
   core-fed k [] ts v a c = inr (c, a)
   core-fed k (t ∷ us) ts v a c = do
@@ -143,7 +143,7 @@ module _ (D : List ℕ → Dig) (D32 : (l : List ℕ) → length (D l) ≡ 32) w
     core-fed k us (t ∷ ts) (next D last v t) (alike-next D last ofRuns v (after D k ts) t a) c′
 
   -- one root, one list
-  same-by-root : (k : Dig) (ts : List Turn) (v : World) → Alike v (after D k ts) → Core D D32 v → Core D D32 (after D k ts)
+  same-by-root : (k : Dig) (ts : List LineTurn) (v : World) → Alike v (after D k ts) → Core D D32 v → Core D D32 (after D k ts)
       → Ending D k ts ⊎ (v .items ≡ after D k ts .items)
   same-by-root k ts v a c d =
       instead (shown D D32 k ts)

@@ -16,7 +16,7 @@ use Rattle.paper.specs.Strings.{Dig, nought, emptyRecord, leaf, node, digest, i
 use Rattle.paper.specs.Requests as Q
 use Rattle.paper.specs.Answers.{rooted}
 use Rattle.rings.specs.Trees.{Leaf, points, Tree, empty, tip, branch, leaves, hashOf, one, count}
-use Rattle.rings.specs.Lists.{Item, item, Listed, remove, ring}
+use Rattle.rings.specs.Lists.{ListItem, itemWith, OnList, remove, ring}
 use Rattle.rings.specs.Changes.{insertion, removal}
 use Rattle.rings.proofs.Counting.{one-self, one-same, count-nil, count-cons, count-append, count-only}
 use Rattle.rings.proofs.Gaps.{gap-tells, gap-apart}
@@ -25,7 +25,7 @@ use Rattle.rings.proofs.Bridge.{zero-is-nought}
 use Rattle.runs.specs.Run.{Items, World}
 use Rattle.runs.specs.Ways.{itemOf, nextOf, hashIn, isOf, leadsTo, has, found, forkOf}
 use Rattle.runs.specs.TreesAfter.{treeWithout}
-use Rattle.runs.specs.Honest.{turned, turnRound, relinked, gone, without, placed, alone, removeLines}
+use Rattle.runs.specs.Honest.{turnedRound, turnRound, relinked, gone, without, placed, alone, removeLines}
 use Rattle.runs.proofs.Parts.{IsDigest}
 use Rattle.runs.proofs.Climbs.{record-digest, tree-digest}
 use Rattle.runs.proofs.Places.{Forks, forked, regrown-two}
@@ -90,8 +90,8 @@ module _ {D : List ℕ → Dig} {w : World} {T : Tree} (g : Ground D w T) where
 
   -- ── the only item ──
 
-  remove-only : (A a : ℕ) (r : Record) → Listed A emptyRecord (w .items) → w .items ≡ item a r ∷ []
-      → Brings D w (removeLines D s A T (item a r ∷ [])) (rooted s nought) (remove A (w .items)) (w .changed)
+  remove-only : (A a : ℕ) (r : Record) → OnList A emptyRecord (w .items) → w .items ≡ itemWith a r ∷ []
+      → Brings D w (removeLines D s A T (itemWith a r ∷ [])) (rooted s nought) (remove A (w .items)) (w .changed)
   remove-only A a r m e =
       let y = points A A nought in
       let only : (x : Leaf) → count x (leaves T) ≡ one x y =
@@ -100,12 +100,12 @@ module _ {D : List ℕ → Dig} {w : World} {T : Tree} (g : Ground D w T) where
       let ha = alone-is (g .ready) A in
       let k = turn-last (g .ready) (Q.first A ∷ []) (alone D s A) (insertion A ∷ []) ha
       (first-line (g .ready) A (g .fits A emptyRecord m .number-fits) (above-zero g A emptyRecord m)) in
-      adopt-last (g .ready) (Q.first A ∷ turnRound D s (alone D s A) ∷ []) (turned (alone D s A)) (removal A ∷ [])
+      adopt-last (g .ready) (Q.first A ∷ turnRound D s (alone D s A) ∷ []) (turnedRound (alone D s A)) (removal A ∷ [])
       (record { old = ha .new; new = ha .old }) root k
     where
       single : (x : Leaf) → count x (points a a (recordHash D r) ∷ []) ≡ one x (points A A nought)
       single x =
-          let p : item A emptyRecord ≡ item a r =
+          let p : itemWith A emptyRecord ≡ itemWith a r =
           elim (List·Memᴰ·cases-cons (rw e at m)) [ inl p ↦ p | inr j ↦ elim j [ ] ] in
           let q : A ≡ a = cc in
           let u : emptyRecord ≡ r = cc in
@@ -149,7 +149,7 @@ module _ {D : List ℕ → Dig} {w : World} {T : Tree} (g : Ground D w T) where
       }
 
   -- where another item is listed too
-  pub linked-in : (A a b : ℕ) (r t : Record) (l : Items) → Listed A emptyRecord (w .items) → w .items ≡ item a r ∷ item b t ∷ l
+  pub linked-in : (A a b : ℕ) (r t : Record) (l : Items) → OnList A emptyRecord (w .items) → w .items ≡ itemWith a r ∷ itemWith b t ∷ l
       → Linked A
   linked-in A a b r t l m e =
       let n = near (recordHash D) A emptyRecord a r b t l (rw e at (g .ascending)) (rw e at m) in
@@ -162,7 +162,7 @@ module _ {D : List ℕ → Dig} {w : World} {T : Tree} (g : Ground D w T) where
   pub fork-of : (A : ℕ) (k : Linked A) → Forks (forkOf (leadsTo A) (isOf A) T) (found (leadsTo A) T) (found (isOf A) T) T
   fork-of A k = forked (leadsTo A) (isOf A) T (k .before) (k .own) (other-leaf A k)
 
-  remove-between : (A : ℕ) → Listed A emptyRecord (w .items) → Linked A → (i j : Item Record) (l : Items)
+  remove-between : (A : ℕ) → OnList A emptyRecord (w .items) → Linked A → (i j : ListItem Record) (l : Items)
       → Brings D w (removeLines D s A T (i ∷ j ∷ l)) (rooted s (hashOf D (treeWithout D A T (i ∷ j ∷ l)))) (remove A (w .items))
       (w .changed)
   remove-between A m k i j l =
@@ -194,7 +194,7 @@ module _ {D : List ℕ → Dig} {w : World} {T : Tree} (g : Ground D w T) where
       brings-also D refl (ap (rooted s) shrunk) refl
       (adopt-last (g .ready) (placed D s f B A B′ ω) y (removal A ∷ []) (without-is (g .ready) f B A B′ ω) root h)
 
-  pub remove-brings : (A : ℕ) → Listed A emptyRecord (w .items)
+  pub remove-brings : (A : ℕ) → OnList A emptyRecord (w .items)
       → Brings D w (removeLines D s A T (w .items)) (rooted s (hashOf D (treeWithout D A T (w .items)))) (remove A (w .items))
       (w .changed)
   remove-brings A m = by-items (w .items) refl
@@ -202,5 +202,5 @@ module _ {D : List ℕ → Dig} {w : World} {T : Tree} (g : Ground D w T) where
       by-items : (l : Items) → w .items ≡ l
           → Brings D w (removeLines D s A T l) (rooted s (hashOf D (treeWithout D A T l))) (remove A (w .items)) (w .changed)
       by-items [] e = elim (rw e at m) [ ]
-      by-items (item a r ∷ []) e = remove-only A a r m e
-      by-items (item a r ∷ item b t ∷ l) e = remove-between A m (linked-in A a b r t l m e) (item a r) (item b t) l
+      by-items (itemWith a r ∷ []) e = remove-only A a r m e
+      by-items (itemWith a r ∷ itemWith b t ∷ l) e = remove-between A m (linked-in A a b r t l m e) (itemWith a r) (itemWith b t) l

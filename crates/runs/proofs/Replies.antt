@@ -17,7 +17,7 @@ use Rattle.paper.specs.Requests.{Request, kinds, kindOf, rowOf, part, recordIn,
 use Rattle.paper.specs.Answers.{findingOf, findingBytes, findingIn, answer}
 use Rattle.paper.specs.Module.{Told}
 use Rattle.paper.proofs.Findings.{SoundFinding, finding-back}
-use Rattle.runs.specs.Run.{Turn, Items, World, toldAt}
+use Rattle.runs.specs.Run.{LineTurn, Items, World, toldAt}
 use Rattle.runs.specs.Safety.{questionIn, TrueFinding, TrueAnswer}
 use Rattle.runs.proofs.Lines.{asked, kindIn, Sorted, refusal, acceptance, sorted}
 use Rattle.runs.specs.Sizes.{InEightBytes, RecordFits}
@@ -77,7 +77,7 @@ module _ (D : List ℕ → Dig) where
       sym (ap (λ (b : List ℕ). findingIn (drop 1 b)) e ∙ finding-back f h) in
       (e ∙ ap (λ (g : Finding). 0x8e ∷ findingBytes g) z, subst (λ (g : Finding). TrueFinding D q g l) z tr)
 
-  pub true-answer : (w : World) (t : Turn) → toldAt D w t .refusal ≡ 0 → TrueFor D (w .items) (asked t)
+  pub true-answer : (w : World) (t : LineTurn) → toldAt D w t .refusal ≡ 0 → TrueFor D (w .items) (asked t)
       → TrueAnswer D (bytesOf (t .line)) (toldAt D w t .says) (w .items)
   true-answer w t z tr = by-sort (sorted D (w .registers) (t .line) (t .space))
     where

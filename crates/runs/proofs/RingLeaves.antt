@@ -8,7 +8,7 @@ use native.Mathlib.Decide.{decLt}
 use native.Mathlib.Omega.{arith}
 use Rattle.paper.specs.Strings.{Dig}
 use Rattle.rings.specs.Trees.{Leaf, points, Leaf-discrete, tick, one, count}
-use Rattle.rings.specs.Lists.{Item, item, Ascending, Listed, chainOf, ring}
+use Rattle.rings.specs.Lists.{ListItem, itemWith, Ascending, OnList, chainOf, ring}
 use Rattle.rings.proofs.Counting.{one-same, count-nil, count-cons, count-cases, count-single}
 use Rattle.rings.proofs.Ring.{bounds, leaf-item}
 use Rattle.runs.specs.Ways.{itemOf, nextOf, hashIn}
@@ -53,16 +53,16 @@ lone-once of x (z ∷ l) g =
     ]
 
 module _ {R : Type 0} (h : R → Dig) where
-  lone-items : (a : ℕ) (r : R) (l : List (Item R)) (z : ℕ) → Ascending a l → Lone itemOf (chainOf h a r l z)
+  lone-items : (a : ℕ) (r : R) (l : List (ListItem R)) (z : ℕ) → Ascending a l → Lone itemOf (chainOf h a r l z)
   lone-items a r [] z g = ((λ y k. absurd (omega (arith, count-nil y))), tt)
-  lone-items a r (item b s ∷ l) z g = (later, lone-items b s l z (g .1))
+  lone-items a r (itemWith b s ∷ l) z g = (later, lone-items b s l z (g .1))
     where
       later : (y : Leaf) → 0 < count y (chainOf h b s l z) → itemOf y ≢ a
       later (points A B w) k e = omega (arith, bounds h A B w b s l z (g .1) k .0, g .0)
 
-  lone-nexts : (a : ℕ) (r : R) (l : List (Item R)) (z : ℕ) → z ≤ a → Ascending a l → Lone nextOf (chainOf h a r l z)
+  lone-nexts : (a : ℕ) (r : R) (l : List (ListItem R)) (z : ℕ) → z ≤ a → Ascending a l → Lone nextOf (chainOf h a r l z)
   lone-nexts a r [] z hz g = ((λ y k. absurd (omega (arith, count-nil y))), tt)
-  lone-nexts a r (item b s ∷ l) z hz g = (later, lone-nexts b s l z (omega (arith, g .0)) (g .1))
+  lone-nexts a r (itemWith b s ∷ l) z hz g = (later, lone-nexts b s l z (omega (arith, g .0)) (g .1))
     where
       later : (y : Leaf) → 0 < count y (chainOf h b s l z) → nextOf y ≢ b
       later (points A B w) k e =
@@ -71,41 +71,41 @@ module _ {R : Type 0} (h : R → Dig) where
 
   -- ── leaves of the ring ──
 
-  pub ring-once : (x : Leaf) (ls : List (Item R)) → Ascending 0 ls → count x (ring h ls) ≤ 1
+  pub ring-once : (x : Leaf) (ls : List (ListItem R)) → Ascending 0 ls → count x (ring h ls) ≤ 1
   ring-once x [] g = omega (arith, count-nil x)
-  ring-once x (item a r ∷ l) g = lone-once itemOf x (chainOf h a r l a) (lone-items a r l a (g .1))
+  ring-once x (itemWith a r ∷ l) g = lone-once itemOf x (chainOf h a r l a) (lone-items a r l a (g .1))
 
   -- no two have one item
-  pub one-of-item : (x y : Leaf) (ls : List (Item R)) → Ascending 0 ls → itemOf x ≡ itemOf y → 0 < count x (ring h ls)
+  pub one-of-item : (x y : Leaf) (ls : List (ListItem R)) → Ascending 0 ls → itemOf x ≡ itemOf y → 0 < count x (ring h ls)
       → 0 < count y (ring h ls) → x ≡ y
   one-of-item x y [] g e m n = absurd (omega (arith, count-nil x))
-  one-of-item x y (item a r ∷ l) g e m n = lone-same itemOf x y (chainOf h a r l a) (lone-items a r l a (g .1)) e m n
+  one-of-item x y (itemWith a r ∷ l) g e m n = lone-same itemOf x y (chainOf h a r l a) (lone-items a r l a (g .1)) e m n
 
   -- and no two lead to one item
-  pub one-to-item : (x y : Leaf) (ls : List (Item R)) → Ascending 0 ls → nextOf x ≡ nextOf y → 0 < count x (ring h ls)
+  pub one-to-item : (x y : Leaf) (ls : List (ListItem R)) → Ascending 0 ls → nextOf x ≡ nextOf y → 0 < count x (ring h ls)
       → 0 < count y (ring h ls) → x ≡ y
   one-to-item x y [] g e m n = absurd (omega (arith, count-nil x))
-  one-to-item x y (item a r ∷ l) g e m n =
+  one-to-item x y (itemWith a r ∷ l) g e m n =
       lone-same nextOf x y (chainOf h a r l a) (lone-nexts a r l a (omega arith) (g .1)) e m n
 
   -- it stands for a listed item
-  pub leaf-held : (x : Leaf) (ls : List (Item R)) → 0 < count x (ring h ls) → (s : R) × Listed (itemOf x) s ls × (h s ≡ hashIn x)
+  pub leaf-held : (x : Leaf) (ls : List (ListItem R)) → 0 < count x (ring h ls) → (s : R) × OnList (itemOf x) s ls × (h s ≡ hashIn x)
   leaf-held (points A B w) ls m = leaf-item h A B w ls m
 
   -- and leads to one
-  next-chain : (A B : ℕ) (w : Dig) (a : ℕ) (r : R) (l : List (Item R)) (z : ℕ) → 0 < count (points A B w) (chainOf h a r l z)
-      → (B ≡ z) ⊎ ((s : R) × Listed B s l)
+  next-chain : (A B : ℕ) (w : Dig) (a : ℕ) (r : R) (l : List (ListItem R)) (z : ℕ) → 0 < count (points A B w) (chainOf h a r l z)
+      → (B ≡ z) ⊎ ((s : R) × OnList B s l)
   next-chain A B w a r [] z m = let e = count-single _ _ m in inl (cc)
-  next-chain A B w a r (item b s ∷ l) z m =
+  next-chain A B w a r (itemWith b s ∷ l) z m =
       elim (count-cases _ _ _ m) [
-        | inl e ↦ inr (s, List·Memᴰ·head {x = item b s} (cc))
+        | inl e ↦ inr (s, List·Memᴰ·head {x = itemWith b s} (cc))
         | inr k ↦ elim (next-chain A B w b s l z k) [ inl e ↦ inl e | inr t ↦ inr (t .0, List·Memᴰ·tail (t .1)) ]
       ]
 
-  pub leaf-next : (x : Leaf) (ls : List (Item R)) → 0 < count x (ring h ls) → (s : R) × Listed (nextOf x) s ls
+  pub leaf-next : (x : Leaf) (ls : List (ListItem R)) → 0 < count x (ring h ls) → (s : R) × OnList (nextOf x) s ls
   leaf-next x [] m = absurd (omega (arith, count-nil x))
-  leaf-next (points A B w) (item a r ∷ l) m =
+  leaf-next (points A B w) (itemWith a r ∷ l) m =
       elim (next-chain A B w a r l a m) [
-        | inl e ↦ (r, List·Memᴰ·head {x = item a r} (cc))
+        | inl e ↦ (r, List·Memᴰ·head {x = itemWith a r} (cc))
         | inr t ↦ (t .0, List·Memᴰ·tail (t .1))
       ]

@@ -17,8 +17,8 @@ use Rattle.rings.specs.Meanings.{Fault}
 use Rattle.rings.proofs.Nodes.{_>>=_, instead}
 use Rattle.rings.proofs.Endings.{fault-shows}
 use Rattle.rings.proofs.InPaper.{holds-ring}
-use Rattle.runs.specs.Run.{Turn, Reading, ofRuns, World, start, toldAt, landed, after}
-use Rattle.runs.specs.Endings.{Ending, collision, zero, forged, earlier}
+use Rattle.runs.specs.Run.{LineTurn, Reading, ofRuns, World, start, toldAt, landed, after}
+use Rattle.runs.specs.Endings.{Ending, byCollision, byZeroDigest, byForgery, earlier}
 use Rattle.runs.specs.Safety.{Stands, LegalEffect, AllFair, SafeOrEnded, Safety}
 use Rattle.runs.proofs.Lines.{asked, kindIn, Sorted, refusal, acceptance, sorted}
 use Rattle.runs.proofs.Formed.{Well, well-at}
@@ -38,7 +38,7 @@ module _ (D : List ℕ → Dig) (D32 : (l : List ℕ) → length (D l) ≡ 32) w
 
   -- ── any line ──
 
-  pub line-out : (by : Reading) (w : World) (t : Turn) → Core D D32 w → Out by w (asked t) (toldAt D w t)
+  pub line-out : (by : Reading) (w : World) (t : LineTurn) → Core D D32 w → Out by w (asked t) (toldAt D w t)
   line-out by w t c = by-sort (sorted D (w .registers) (t .line) (t .space))
     where
       by-sort : Sorted D (w .registers) (t .line) (t .space) → Out by w (asked t) (toldAt D w t)
@@ -69,14 +69,14 @@ module _ (D : List ℕ → Dig) (D32 : (l : List ℕ) → length (D l) ≡ 32) w
       }
 
   -- a fault among the strings of a run is one of its endings
-  pub shown : (k : Dig) (ts : List Turn) → Fault (digest D) (after D k ts .formed) → Ending D k ts
+  pub shown : (k : Dig) (ts : List LineTurn) → Fault (digest D) (after D k ts .formed) → Ending D k ts
   shown k ts f =
       elim (fault-shows {D = D} (λ s i. well-at (after D k ts .formed) s (side D D32 k ts .well) i) f) [
-        | inl c ↦ collision c
-        | inr z ↦ zero z
+        | inl c ↦ byCollision c
+        | inr z ↦ byZeroDigest z
       ]
 
-  pub run : (k : Dig) (ts : List Turn) → Ending D k ts ⊎ (Core D D32 (after D k ts) × AllFair D k ts)
+  pub run : (k : Dig) (ts : List LineTurn) → Ending D k ts ⊎ (Core D D32 (after D k ts) × AllFair D k ts)
   run k [] = inr (core-start k, tt)
   run k (t ∷ ts) = do
     x ← instead (earlier t) (run k ts)
@@ -86,7 +86,7 @@ module _ (D : List ℕ → Dig) (D32 : (l : List ℕ) → length (D l) ≡ 32) w
       ends : Fault (digest D) (after D k (t ∷ ts) .formed) ⊎ ((toldAt D (after D k ts) t .refusal ≡ 0) × Forgery D (after D k ts)
           (asked t)) → Ending D k (t ∷ ts)
       ends (inl f) = shown k (t ∷ ts) f
-      ends (inr x) = forged t (record { accepted = x .0; memorandum = x .1 .0; carries = x .1 .1; unissued = x .1 .2 })
+      ends (inr x) = byForgery t (record { accepted = x .0; memorandum = x .1 .0; carries = x .1 .1; unissued = x .1 .2 })
 
   pub stands-of : (w : World) → Core D D32 w → Well (w .formed) → Stands D w
   stands-of w c well =

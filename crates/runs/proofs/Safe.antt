@@ -18,12 +18,12 @@ use Rattle.paper.specs.Strings.{Dig, nought, emptyRecord, Memo, u1, v1, u2, ei,
 use Rattle.paper.specs.Requests as Q
 use Rattle.paper.specs.Requests.{Request}
 use Rattle.paper.specs.Refusals.{isRoot, first-memo, nextRecord, clearedRecord, placeForms, placeSays, noneFits, tried, leafOf, leafForms, changeForms, changeSays, needs, those, applies, passed}
-use Rattle.paper.specs.Answers.{Change, none′, issues, changes, answer, findingOf}
+use Rattle.paper.specs.Answers.{ListChange, none′, issues, changes, answer, findingOf}
 use Rattle.paper.specs.Module.{Told, told}
 use Rattle.paper.specs.declared.Finding.the-variants.{Recorded, Listed, Gap}
 use Rattle.paper.proofs.Verdicts.{opposite-false, the-one}
 use Rattle.rings.specs.Trees.{Tree, hashOf}
-use Rattle.rings.specs.Lists.{item}
+use Rattle.rings.specs.Lists.{itemWith}
 use Rattle.rings.specs.Meanings.{Within, Known, known-empty, known-recorded, StandsFor, Means}
 use Rattle.rings.proofs.Nodes.{_>>=_, instead}
 use Rattle.rings.proofs.Memos.{stands-more}
@@ -106,7 +106,7 @@ module _ (D : List ℕ → Dig) (D32 : (l : List ℕ) → length (D l) ≡ 32) w
       by-tests : (b c : Bool) → eqb q A ≡ b → blank r ≡ c → either b (inGap q A A′) ≡ true
           → TrueFinding D q (pick b (pick c (Listed (record { 0 = A })) (Recorded (record { 0 = A }) r))
           (Gap (record { 0 = A }) (record { 0 = A′ }))) l
-      by-tests true true e e′ n = (eqb-true q A e, subst (λ (x : Record). List·Memᴰ (item A x) l) (blank-empty r e′ ok) (f .0))
+      by-tests true true e e′ n = (eqb-true q A e, subst (λ (x : Record). List·Memᴰ (itemWith A x) l) (blank-empty r e′ ok) (f .0))
       by-tests true false e e′ n = (eqb-true q A e, e′, f .0)
       by-tests false c e e′ n = (n, f .1 q n, (r, f .0, f .2))
 
@@ -162,7 +162,7 @@ module _ (D : List ℕ → Dig) (D32 : (l : List ℕ) → length (D l) ≡ 32) w
     before-issue g {t} e x i = g .of-answer x (rw e (Memᴰ·append-right (memorandumForms D t key) i))
 
     -- a line that issues a memorandum whose meaning is known; its strings are the first that the answer forms
-    issued : {q : Request} (g : GivenTo q) {t : Memo} {c : Change} {l : List Str} → answer D s q .after ≡ s
+    issued : {q : Request} (g : GivenTo q) {t : Memo} {c : ListChange} {l : List Str} → answer D s q .after ≡ s
         → answer D s q .effect ≡ issues t c → answer D s q .forms ≡ memorandumForms D t key ++ l
         → Means dig (G q) t (meaning (w .book) c) → Comes q
     issued {q} g {t} {l = l} e₁ e₂ e₃ m =

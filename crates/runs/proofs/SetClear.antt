@@ -16,7 +16,7 @@ use Rattle.paper.specs.Requests as Q
 use Rattle.paper.specs.Refusals.{top, nextRecord, clearedRecord, noneFits}
 use Rattle.paper.specs.Answers.{raised}
 use Rattle.rings.specs.Trees.{points, Tree, tip, hashOf}
-use Rattle.rings.specs.Lists.{Listed, putRecord}
+use Rattle.rings.specs.Lists.{OnList, putRecord}
 use Rattle.runs.specs.Run.{World}
 use Rattle.runs.specs.Ways.{nextOf, isOf, found, wayTo, rise, Edit, risen}
 use Rattle.runs.specs.TreesAfter.{treeRewritten}
@@ -59,7 +59,7 @@ module _ {D : List ℕ → Dig} {w : World} {T : Tree} (g : Ground D w T) where
     new-root : atRoot A new .becomes ≡ hashOf D (treeRewritten D A new T)
     lines : Got D w (onePlace D s (wayTo (isOf A) T) (atLeaf A new)) (sayU1 (atLeaf A new) (atRoot A new))
 
-  rewrites : (A : ℕ) (r new : Record) → Listed A r (w .items) → Rewrites A r new
+  rewrites : (A : ℕ) (r new : Record) → OnList A r (w .items) → Rewrites A r new
   rewrites A r new m =
       let have = of-item g A r m in
       let t = spotted g (isOf A) have in
@@ -88,7 +88,7 @@ module _ {D : List ℕ → Dig} {w : World} {T : Tree} (g : Ground D w T) where
   not-at-top : (c : ℕ) → c < top → eqb c top ≡ false
   not-at-top c h = ne-eqb c top (λ e. omega arith)
 
-  pub set-brings : (A : ℕ) (v : Values) (r : Record) → Listed A r (w .items) → ValuesFit v → s .counter .0 < top
+  pub set-brings : (A : ℕ) (v : Values) (r : Record) → OnList A r (w .items) → ValuesFit v → s .counter .0 < top
       → Brings D w (setLines D s A v T (w .items)) (raised s (hashOf D (treeRewritten D A (nextRecord s v) T)))
       (putRecord A (nextRecord s v) (w .items)) (w .changed + 1)
   set-brings A v r m fit below =
@@ -102,7 +102,7 @@ module _ {D : List ℕ → Dig} {w : World} {T : Tree} (g : Ground D w T) where
       and u .fits and u .at-root and tt)
       (h .got, tt))))
 
-  pub clear-brings : (A : ℕ) (r : Record) → Listed A r (w .items) → blank r ≡ false → s .counter .0 < top
+  pub clear-brings : (A : ℕ) (r : Record) → OnList A r (w .items) → blank r ≡ false → s .counter .0 < top
       → Brings D w (clearLines D s A T (w .items)) (raised s (hashOf D (treeRewritten D A clearedRecord T)))
       (putRecord A clearedRecord (w .items)) (w .changed + 1)
   clear-brings A r m recorded below =

@@ -16,7 +16,7 @@ use Rattle.paper.specs.Answers.{rooted, raised, answer}
 use Rattle.paper.specs.Module.{Told, told}
 use Rattle.paper.proofs.Early.{late}
 use Rattle.paper.proofs.Verdicts.{opposite-false, the-one}
-use Rattle.runs.specs.Run.{Turn, Reading, ofRuns, World, toldAt, landed, next, after}
+use Rattle.runs.specs.Run.{LineTurn, Reading, ofRuns, World, toldAt, landed, next, after}
 use Rattle.runs.specs.Sizes.{InEightBytes}
 use Rattle.runs.specs.Safety.{Untouched}
 use Rattle.runs.proofs.Accepted.{NoneApplies}
@@ -140,7 +140,7 @@ module _ (D : List ℕ → Dig) (D32 : (l : List ℕ) → length (D l) ≡ 32) w
             subst (λ (v : Verdict). Well (told D s kind q v .formed)) e (well-formed D D32 s kind q small (keyed o) h)
         by-open false o = subst Well (sym (read-shut u e o)) tt
 
-  line-side : (by : Reading) (k : Dig) (w : World) (t : Turn) → Side k w → Side k (next D by w t)
+  line-side : (by : Reading) (k : Dig) (w : World) (t : LineTurn) → Side k w → Side k (next D by w t)
   line-side by k w t v = by-sort (sorted D (w .registers) (t .line) (t .space))
     where
       by-sort : Sorted D (w .registers) (t .line) (t .space) → Side k (landed D by w (toldAt D w t))
@@ -158,11 +158,11 @@ module _ (D : List ℕ → Dig) (D32 : (l : List ℕ) → length (D l) ≡ 32) w
 
   -- ── a line at a module that is not open, and one at an open module ──
 
-  pub record AtShut (w : World) (t : Turn) : Type 0 where
+  pub record AtShut (w : World) (t : LineTurn) : Type 0 where
     pub forms-none : toldAt D w t .formed ≡ []
     pub carries-none : toldAt D w t .refusal ≡ 0 → carried D (w .registers) (asked t) ≡ []
 
-  pub at-shut : (k : Dig) (w : World) (t : Turn) → Side k w → w .registers .opened ≡ false → AtShut w t
+  pub at-shut : (k : Dig) (w : World) (t : LineTurn) → Side k w → w .registers .opened ≡ false → AtShut w t
   at-shut k w t v o = by-sort (sorted D (w .registers) (t .line) (t .space))
     where
       by-sort : Sorted D (w .registers) (t .line) (t .space) → AtShut w t
@@ -184,7 +184,7 @@ module _ (D : List ℕ → Dig) (D32 : (l : List ℕ) → length (D l) ≡ 32) w
             carries-none = λ z. left (w .registers) (asked t) n h .shut o;
           }
 
-  pub stays-open : (w : World) (t : Turn) → w .registers .opened ≡ true → toldAt D w t .after .opened ≡ true
+  pub stays-open : (w : World) (t : LineTurn) → w .registers .opened ≡ true → toldAt D w t .after .opened ≡ true
   stays-open w t o = by-sort (sorted D (w .registers) (t .line) (t .space))
     where
       by-sort : Sorted D (w .registers) (t .line) (t .space) → toldAt D w t .after .opened ≡ true
@@ -193,7 +193,7 @@ module _ (D : List ℕ → Dig) (D32 : (l : List ℕ) → length (D l) ≡ 32) w
 
   -- ── a run ──
 
-  pub side : (k : Dig) (ts : List Turn) → Side k (after D k ts)
+  pub side : (k : Dig) (ts : List LineTurn) → Side k (after D k ts)
   side k [] =
       record {
         small = omega arith;

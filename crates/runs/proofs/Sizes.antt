@@ -16,7 +16,7 @@ use Rattle.paper.specs.declared.Registers.{Registers}
 use Rattle.paper.specs.Strings.{Dig, Str, leaf, entry, digest, emptyRecord, malformed}
 use Rattle.paper.specs.Refusals.{top, nextRecord}
 use Rattle.rings.specs.Trees.{points, Tree, empty, tip, branch, leaves, count}
-use Rattle.rings.specs.Lists.{item, Ascending, Listed, insert, remove, putRecord}
+use Rattle.rings.specs.Lists.{itemWith, Ascending, OnList, insert, remove, putRecord}
 use Rattle.rings.specs.Meanings.{_∈_, TreeIn, hashRecord, Known, known-empty, known-recorded}
 use Rattle.rings.proofs.Counting.{count-nil, count-append, count-single}
 use Rattle.rings.proofs.Items.{record-at, listed-above}
@@ -30,9 +30,9 @@ use Rattle.runs.proofs.Safe.{Core}
 
 -- ── one record for each item ──
 
-pub record-is : (b A : ℕ) (r : Record) (l : Items) → Ascending b l → Listed A r l → recordOf A l ≡ r
+pub record-is : (b A : ℕ) (r : Record) (l : Items) → Ascending b l → OnList A r l → recordOf A l ≡ r
 record-is b A r [] g m = elim m [ ]
-record-is b A r (item a s ∷ l) g m =
+record-is b A r (itemWith a s ∷ l) g m =
     elim (List·Memᴰ·cases-cons m) [
       | inl e ↦ (let p : A ≡ a = cc in let q : s ≡ r = cc in rw (eq-eqb A a p) q)
       | inr k ↦ (
@@ -45,43 +45,43 @@ record-is b A r (item a s ∷ l) g m =
 pub item-fits : (A : ℕ) (r : Record) → InEightBytes A → RecordFits r → malformed r ≡ false → ItemFits A r
 item-fits A r n f m = record { number-fits = n; record-fits = f; well-formed = rw m refl }
 
-one-more : (A : ℕ) (r : Record) (l : Items) → ItemFits A r → ItemsFit l → ItemsFit (item A r ∷ l)
+one-more : (A : ℕ) (r : Record) (l : Items) → ItemFits A r → ItemsFit l → ItemsFit (itemWith A r ∷ l)
 one-more A r l f g B s m =
     elim (List·Memᴰ·cases-cons m) [
       | inl e ↦ (let p : A ≡ B = cc in let q : r ≡ s = cc in subst (ItemFits B) q (subst (λ (n : ℕ). ItemFits n r) p f))
       | inr k ↦ g B s k
     ]
 
-first-fits : (A : ℕ) (r : Record) (l : Items) → ItemsFit (item A r ∷ l) → ItemFits A r
+first-fits : (A : ℕ) (r : Record) (l : Items) → ItemsFit (itemWith A r ∷ l) → ItemFits A r
 first-fits A r l g = g A r (List·Memᴰ·head refl)
 
-others-fit : (A : ℕ) (r : Record) (l : Items) → ItemsFit (item A r ∷ l) → ItemsFit l
+others-fit : (A : ℕ) (r : Record) (l : Items) → ItemsFit (itemWith A r ∷ l) → ItemsFit l
 others-fit A r l g B s m = g B s (List·Memᴰ·tail m)
 
 pub insert-fits : (A : ℕ) (r : Record) (l : Items) → ItemFits A r → ItemsFit l → ItemsFit (insert A r l)
 unfolding insert
 insert-fits A r [] f g = one-more A r [] f g
-insert-fits A r (item a s ∷ l) f g = go (ltb A a) (insert-fits A r l f (others-fit a s l g))
+insert-fits A r (itemWith a s ∷ l) f g = go (ltb A a) (insert-fits A r l f (others-fit a s l g))
   where
-    go : (b : Bool) → ItemsFit (insert A r l) → ItemsFit (pick b (item A r ∷ item a s ∷ l) (item a s ∷ insert A r l))
-    go true k = one-more A r (item a s ∷ l) f g
+    go : (b : Bool) → ItemsFit (insert A r l) → ItemsFit (pick b (itemWith A r ∷ itemWith a s ∷ l) (itemWith a s ∷ insert A r l))
+    go true k = one-more A r (itemWith a s ∷ l) f g
     go false k = one-more a s (insert A r l) (first-fits a s l g) k
 
 pub remove-fits : (A : ℕ) (l : Items) → ItemsFit l → ItemsFit (remove A l)
 unfolding remove
 remove-fits A [] g = g
-remove-fits A (item a s ∷ l) g = go (eqb A a) (remove-fits A l (others-fit a s l g))
+remove-fits A (itemWith a s ∷ l) g = go (eqb A a) (remove-fits A l (others-fit a s l g))
   where
-    go : (b : Bool) → ItemsFit (remove A l) → ItemsFit (pick b l (item a s ∷ remove A l))
+    go : (b : Bool) → ItemsFit (remove A l) → ItemsFit (pick b l (itemWith a s ∷ remove A l))
     go true k = others-fit a s l g
     go false k = one-more a s (remove A l) (first-fits a s l g) k
 
 pub put-fits : (A : ℕ) (r : Record) (l : Items) → RecordFits r → malformed r ≡ false → ItemsFit l → ItemsFit (putRecord A r l)
 unfolding putRecord
 put-fits A r [] f n g = g
-put-fits A r (item a s ∷ l) f n g = go (eqb A a) (put-fits A r l f n (others-fit a s l g))
+put-fits A r (itemWith a s ∷ l) f n g = go (eqb A a) (put-fits A r l f n (others-fit a s l g))
   where
-    go : (b : Bool) → ItemsFit (putRecord A r l) → ItemsFit (pick b (item a r ∷ l) (item a s ∷ putRecord A r l))
+    go : (b : Bool) → ItemsFit (putRecord A r l) → ItemsFit (pick b (itemWith a r ∷ l) (itemWith a s ∷ putRecord A r l))
     go true k = one-more a r l (item-fits a r (first-fits a s l g .number-fits) f n) (others-fit a s l g)
     go false k = one-more a s (putRecord A r l) (first-fits a s l g) k
 

@@ -11,12 +11,12 @@ use Rattle.paper.specs.Strings.{Dig}
 use Rattle.paper.specs.Requests.{Request, kindOf, requestOf}
 use Rattle.paper.specs.Refusals.{plain, order, replyRoom, isHex, needs, judge, carried}
 use Rattle.paper.specs.Module.{Told, frameChecks, told, answerTo}
-use Rattle.runs.specs.Run.{Turn, last, World, toldAt, landed, next}
+use Rattle.runs.specs.Run.{LineTurn, last, World, toldAt, landed, next}
 use Rattle.runs.specs.Frames.{linesOf, turnOf, turnsOf}
 use Rattle.runs.specs.Liveness.{AllIssued, Spaced, fed, Honest, lastReply}
 
 -- just 195 will do
-pub some-turns : (lines : List (List ℕ)) → (us : List Turn) × Spaced lines us
+pub some-turns : (lines : List (List ℕ)) → (us : List LineTurn) × Spaced lines us
 some-turns [] = ([], tt)
 some-turns (l ∷ ls) =
     let r = some-turns ls in
@@ -33,25 +33,25 @@ module _ (D : List ℕ → Dig) where
       ap (λ (b : Bool). told D s (kindOf f) (requestOf f)
       (judge order [] (plain 15 b ∷ isHex line ∷ (frameChecks f ++ needs D s (requestOf f))))) (le-ltb space replyRoom h)
 
-  told-same : (w : World) (q : Request) (t : Turn) → t .line ≡ turnOf q .line → replyRoom ≤ t .space
+  told-same : (w : World) (q : Request) (t : LineTurn) → t .line ≡ turnOf q .line → replyRoom ≤ t .space
       → toldAt D w t ≡ toldAt D w (turnOf q)
   told-same w q t e h =
       room-enough (w .registers) (t .line) (t .space) h ∙ ap (λ (l : List ℕ). answerTo D (w .registers) l replyRoom) e
 
-  next-same : (w : World) (q : Request) (t : Turn) → t .line ≡ turnOf q .line → replyRoom ≤ t .space
+  next-same : (w : World) (q : Request) (t : LineTurn) → t .line ≡ turnOf q .line → replyRoom ≤ t .space
       → next D last w t ≡ next D last w (turnOf q)
   next-same w q t e h = ap (landed D last w) (told-same w q t e h)
 
   -- ── lines fed in turn ──
 
-  pub fed-same : (w : World) (qs : List Request) (us : List Turn) → Spaced (linesOf qs) us → fed D w us ≡ fed D w (turnsOf qs)
+  pub fed-same : (w : World) (qs : List Request) (us : List LineTurn) → Spaced (linesOf qs) us → fed D w us ≡ fed D w (turnsOf qs)
   fed-same w [] [] h = refl
   fed-same w [] (t ∷ us) h = absurd h
   fed-same w (q ∷ qs) [] h = absurd h
   fed-same w (q ∷ qs) (t ∷ us) h =
       ap (λ (v : World). fed D v us) (next-same w q t (h .0) (h .1)) ∙ fed-same (next D last w (turnOf q)) qs us (h .2)
 
-  pub honest-same : (w : World) (qs : List Request) (us : List Turn) → Spaced (linesOf qs) us → Honest D w (turnsOf qs)
+  pub honest-same : (w : World) (qs : List Request) (us : List LineTurn) → Spaced (linesOf qs) us → Honest D w (turnsOf qs)
       → Honest D w us
   honest-same w [] [] h k = tt
   honest-same w [] (t ∷ us) h k = absurd h
@@ -63,7 +63,7 @@ module _ (D : List ℕ → Dig) where
         (honest-same (next D last w (turnOf q)) qs us (h .2) (k .2)),
   )
 
-  pub reply-same : (w : World) (qs : List Request) (us : List Turn) → Spaced (linesOf qs) us
+  pub reply-same : (w : World) (qs : List Request) (us : List LineTurn) → Spaced (linesOf qs) us
       → lastReply D w us ≡ lastReply D w (turnsOf qs)
   reply-same w [] [] h = refl
   reply-same w [] (t ∷ us) h = absurd h

@@ -10,7 +10,7 @@ use Rattle.paper.specs.declared.Registers.{Registers}
 use Rattle.paper.specs.Strings.{Dig, leaf, digest, recordHash}
 use Rattle.paper.specs.Refusals.{leafOf}
 use Rattle.rings.specs.Trees.{Leaf, points, Tree, tip, leaves, hashOf, count, Permuted}
-use Rattle.rings.specs.Lists.{Ascending, Listed, ring}
+use Rattle.rings.specs.Lists.{Ascending, OnList, ring}
 use Rattle.rings.proofs.Items.{listed-above}
 use Rattle.rings.proofs.Find.{item-leaf}
 use Rattle.runs.specs.Run.{World}
@@ -49,14 +49,14 @@ module _ {D : List ℕ → Dig} {w : World} {T : Tree} (g : Ground D w T) where
     pub passes : p (found p T) ≡ true
     pub in-ring : InRing D w (found p T)
     pub held : Record
-    pub listed : Listed (itemOf (found p T)) held (w .items)
+    pub listed : OnList (itemOf (found p T)) held (w .items)
     pub hash-is : recordHash D held ≡ hashIn (found p T)
     pub next-positive : 0 < nextOf (found p T)
     pub next-fits : InEightBytes (nextOf (found p T))
     pub to-root : rise D (wayTo p T) (hashOf D (tip (found p T))) ≡ s .root
 
   -- a listed number is above 0
-  pub above-zero : (A : ℕ) (r : Record) → Listed A r (w .items) → 0 < A
+  pub above-zero : (A : ℕ) (r : Record) → OnList A r (w .items) → 0 < A
   above-zero A r m = listed-above 0 A r (w .items) (g .ascending) m
 
   -- every leaf of the tree occurs once
@@ -86,17 +86,17 @@ module _ {D : List ℕ → Dig} {w : World} {T : Tree} (g : Ground D w T) where
       }
 
   -- the leaf of a listed item
-  pub of-item : (A : ℕ) (r : Record) → Listed A r (w .items) → has (isOf A) T ≡ true
+  pub of-item : (A : ℕ) (r : Record) → OnList A r (w .items) → has (isOf A) T ≡ true
   of-item A r m =
       let i = item-leaf (recordHash D) A r (w .items) m in
       spot-by (isOf A) (points A (i .0) (recordHash D r)) (eq-eqb A A refl) (i .1)
 
   -- it holds the item's record
-  pub item-digest : (A : ℕ) (r : Record) → Listed A r (w .items) → (p : Leaf → Bool) (t : Spotted p) → A ≡ itemOf (found p T)
+  pub item-digest : (A : ℕ) (r : Record) → OnList A r (w .items) → (p : Leaf → Bool) (t : Spotted p) → A ≡ itemOf (found p T)
       → digest D (leafOf D A (nextOf (found p T)) (recordOf A (w .items))) ≡ hashOf D (tip (found p T))
   item-digest A r m p t e =
       let x = found p T in
       let k : recordOf A (w .items) ≡ t .held =
-      record-is 0 A (t .held) (w .items) (g .ascending) (subst (λ (a : ℕ). Listed a (t .held) (w .items)) (sym e) (t .listed)) in
+      record-is 0 A (t .held) (w .items) (g .ascending) (subst (λ (a : ℕ). OnList a (t .held) (w .items)) (sym e) (t .listed)) in
       let h : recordHash D (recordOf A (w .items)) ≡ hashIn x = ap (recordHash D) k ∙ t .hash-is in
       (λ i. digest D (leaf (e i) (nextOf x) (h i))) ∙ leaf-digest D x

@@ -16,7 +16,7 @@ use Rattle.paper.specs.Collisions.{Collision}
 use Rattle.rings.specs.Trees.{Tree}
 use Rattle.rings.specs.Endings.{ZeroDigest}
 use Rattle.rings.specs.Meanings.{Within, Means}
-use Rattle.runs.specs.Run.{Turn, Items, Issue, standsFor, isIssued, World, toldAt, after}
+use Rattle.runs.specs.Run.{LineTurn, Items, Issue, standsFor, isIssued, World, toldAt, after}
 use Rattle.runs.specs.Endings.{Forged, Ending}
 use Rattle.runs.specs.Safety.{Stands, Safe}
 use Rattle.runs.specs.Wishes.{Wish}
@@ -24,7 +24,7 @@ use Rattle.runs.specs.Outcomes.{itemsAfter}
 use Rattle.runs.specs.Liveness.{latestFirst, fed, Honest, Grants}
 
 -- further lines, in order, behind those of a run, the latest first
-abbrev pub onwards : (further run : List Turn) → List Turn
+abbrev pub onwards : (further run : List LineTurn) → List LineTurn
 onwards [] ts = ts
 onwards (t ∷ us) ts = onwards us (t ∷ ts)
 
@@ -46,7 +46,7 @@ module _ (D : List ℕ → Dig) where
   -- shown
   abbrev pub RootSettlesList : Type 0
   RootSettlesList =
-      (k k′ : Dig) (ts us : List Turn) → after D k ts .registers .root ≡ after D k′ us .registers .root
+      (k k′ : Dig) (ts us : List LineTurn) → after D k ts .registers .root ≡ after D k′ us .registers .root
       → (Ending D k ts ⊎ Ending D k′ us)
       ⊎ (Shown (after D k ts .formed ++ after D k′ us .formed) ⊎ (after D k ts .items ≡ after D k′ us .items))
 
@@ -54,51 +54,51 @@ module _ (D : List ℕ → Dig) where
   -- last, or the run ends. So what honest lines do by the one reading they do by the other, and so does a run from its start.
   abbrev pub ReadingsAgree : Type 0
   ReadingsAgree =
-      (k : Dig) (ts us : List Turn)
+      (k : Dig) (ts us : List LineTurn)
       → Ending D k (onwards us ts) ⊎ (fed D (latestFirst (after D k ts)) us .items ≡ after D k (onwards us ts) .items)
 
   -- a line of the run was accepted with a memorandum that no earlier line issued
-  abbrev pub AnyForged : (secret : Dig) → List Turn → Type 0
+  abbrev pub AnyForged : (secret : Dig) → List LineTurn → Type 0
   AnyForged k [] = ⊥
   AnyForged k (t ∷ ts) = Forged D (after D k ts) t ⊎ AnyForged k ts
 
   -- An ending is just that: something shown among the strings formed, or a forged memorandum of some line.
-  pub record WaysOut (k : Dig) (ts : List Turn) : Type 0 where
+  pub record WaysOut (k : Dig) (ts : List LineTurn) : Type 0 where
     pub only : Ending D k ts → Shown (after D k ts .formed) ⊎ AnyForged k ts
     pub each : Shown (after D k ts .formed) ⊎ AnyForged k ts → Ending D k ts
 
   abbrev pub EndingIs : Type 0
-  EndingIs = (k : Dig) (ts : List Turn) → WaysOut k ts
+  EndingIs = (k : Dig) (ts : List LineTurn) → WaysOut k ts
 
   -- without a collision or an all-zero digest among the strings formed, and without a forged memorandum, a run is safe
   abbrev pub NoOtherWayOut : Type 0
   NoOtherWayOut =
-      (k : Dig) (ts : List Turn) → (Shown (after D k ts .formed) → ⊥) → (AnyForged k ts → ⊥) → Safe D k ts
+      (k : Dig) (ts : List LineTurn) → (Shown (after D k ts .formed) → ⊥) → (AnyForged k ts → ⊥) → Safe D k ts
 
   -- A run that is not open has not ended, and the line that opens it, or any other line at a module that is not open, does not
   -- end it: so no run of one line has ended, whatever the line is.
   abbrev pub NotEndedBeforeOpen : Type 0
-  NotEndedBeforeOpen = (k : Dig) (ts : List Turn) → after D k ts .registers .opened ≡ false → Ending D k ts → ⊥
+  NotEndedBeforeOpen = (k : Dig) (ts : List LineTurn) → after D k ts .registers .opened ≡ false → Ending D k ts → ⊥
 
   abbrev pub NotEndedByOpening : Type 0
   NotEndedByOpening =
-      (k : Dig) (ts : List Turn) (t : Turn) → after D k ts .registers .opened ≡ false → Ending D k (t ∷ ts) → ⊥
+      (k : Dig) (ts : List LineTurn) (t : LineTurn) → after D k ts .registers .opened ≡ false → Ending D k (t ∷ ts) → ⊥
 
   -- Honest lines end no run: where one has ended behind them, it had before, or something can be shown among the strings.
   abbrev pub HonestEndsNothing : Type 0
   HonestEndsNothing =
-      (k : Dig) (ts us : List Turn) → Honest D (latestFirst (after D k ts)) us → Ending D k (onwards us ts)
+      (k : Dig) (ts us : List LineTurn) → Honest D (latestFirst (after D k ts)) us → Ending D k (onwards us ts)
       → Ending D k ts ⊎ Shown (after D k (onwards us ts) .formed)
 
   -- Granted wishes seen by the replay of runs, whichever lines grant them: the run had ended before those lines, or among the
   -- strings something can be shown, or behind them the run's own list is the one wanted and a tree stands for it.
-  pub record Replayed (k : Dig) (ts us : List Turn) (l : Items) : Type 0 where
+  pub record Replayed (k : Dig) (ts us : List LineTurn) (l : Items) : Type 0 where
     pub items : after D k (onwards us ts) .items ≡ l
     pub stands : Stands D (after D k (onwards us ts))
 
   abbrev pub HonestReplayed : Type 0
   HonestReplayed =
-      (k : Dig) (ts us : List Turn) (T : Tree) (x : Wish) → Grants D (latestFirst (after D k ts)) T x us
+      (k : Dig) (ts us : List LineTurn) (T : Tree) (x : Wish) → Grants D (latestFirst (after D k ts)) T x us
       → Ending D k ts
       ⊎ (Shown (after D k (onwards us ts) .formed)
       ⊎ Replayed k ts us (itemsAfter (after D k ts .registers) (after D k ts .items) x))
@@ -106,19 +106,19 @@ module _ (D : List ℕ → Dig) where
   -- "A memorandum stands for what the earliest line that issued it does": whatever lines follow
   abbrev pub EarliestStays : Type 0
   EarliestStays =
-      (k : Dig) (ts : List Turn) (t : Turn) (m : Dig) → isIssued m (after D k ts .book) ≡ true
+      (k : Dig) (ts : List LineTurn) (t : LineTurn) (m : Dig) → isIssued m (after D k ts .book) ≡ true
       → standsFor m (after D k (t ∷ ts) .book) ≡ standsFor m (after D k ts .book)
 
   -- "A line issues the memorandum its reply lists": an accepted line of kinds 01 to 0a enters one memorandum behind those issued
   -- before, the last 32 bytes of its reply; no other line enters any.
-  pub record Entered (w : World) (t : Turn) (book : List Issue) : Type 0 where
+  pub record Entered (w : World) (t : LineTurn) (book : List Issue) : Type 0 where
     pub issuing : toldAt D w t .refusal ≡ 0 → kindOf (bytesOf (t .line)) ≤ 0x0a
         → (i : Issue) × (i .memorandum ≡ lastOf 32 (toldAt D w t .says)) × (book ≡ w .book ++ (i ∷ []))
     pub other : 0x0a < kindOf (bytesOf (t .line)) → book ≡ w .book
     pub refused : (toldAt D w t .refusal ≡ 0 → ⊥) → book ≡ w .book
 
   abbrev pub BookGrows : Type 0
-  BookGrows = (k : Dig) (ts : List Turn) (t : Turn) → Entered (after D k ts) t (after D k (t ∷ ts) .book)
+  BookGrows = (k : Dig) (ts : List LineTurn) (t : LineTurn) → Entered (after D k ts) t (after D k (t ∷ ts) .book)
 
   -- Every memorandum issued so far means what it says: it was made of what it says and a secret, its strings were formed, and what
   -- it says is so by the strings formed, an EI standing for what the line that issued it does; or the run has ended.
@@ -134,7 +134,7 @@ module _ (D : List ℕ → Dig) where
   AllBacked F (i ∷ b) = Backed F i × AllBacked F b
 
   abbrev pub MemorandaMean : Type 0
-  MemorandaMean = (k : Dig) (ts : List Turn) → Ending D k ts ⊎ AllBacked (after D k ts .formed) (after D k ts .book)
+  MemorandaMean = (k : Dig) (ts : List LineTurn) → Ending D k ts ⊎ AllBacked (after D k ts .formed) (after D k ts .book)
 
   pub record AlsoFor : Type 0 where
     pub nothing-to-show : NothingToShow

@@ -1,5 +1,5 @@
 -- What is legal and what is true of one short list, row by row, and the replies to three questions, byte by byte, as tables under
--- one statement, `ByHand`: a definition of `Legal` or of `TrueFinding` made narrower or wider breaks a row. `proofs/ByHand`
+-- one statement, `ListByHand`: a definition of `Legal` or of `TrueFinding` made narrower or wider breaks a row. `proofs/ByHand`
 -- shows it.
 use mathlib.Core.Path.{_≡_}
 use mathlib.Core.Bool.{true}
@@ -16,14 +16,14 @@ use Rattle.paper.specs.declared.Finding.the-variants.{Recorded, Listed as Empty
 use Rattle.paper.specs.Strings.{Dig, v1, emptyRecord, digest, memorandum}
 use Rattle.paper.specs.Refusals.{replyRoom, leafOf}
 use Rattle.paper.specs.Module.{answerTo}
-use Rattle.rings.specs.Lists.{item}
+use Rattle.rings.specs.Lists.{itemWith}
 use Rattle.runs.specs.Run.{Items}
 use Rattle.runs.specs.Safety.{TrueFinding}
 use Rattle.runs.specs.Wishes.{Wish, insertItem, removeItem, swapPlaces, setRecord, clearRecord, askAbout, Legal}
 
 -- a record of four numbers, a set's values of three
-abbrev pub recordOf : (revision mass offset rigging : ℕ) → Record
-recordOf a b c d =
+abbrev pub fourNumbers : (revision mass offset rigging : ℕ) → Record
+fourNumbers a b c d =
     record {
       revision = record { 0 = a };
       mass = record { 0 = b };
@@ -36,37 +36,37 @@ valuesOf b c d = record { mass = record { 0 = b }; offset = record { 0 = c }; ri
 
 -- the list: item 5 with no record, item 9 with one
 abbrev pub rotor : Record
-rotor = recordOf 3 68900 1250 3
+rotor = fourNumbers 3 68900 1250 3
 
 abbrev pub small : Items
-small = item 5 emptyRecord ∷ item 9 rotor ∷ []
+small = itemWith 5 emptyRecord ∷ itemWith 9 rotor ∷ []
 
 -- findings on items by their numbers
-abbrev recorded : ℕ → Record → Finding
-recorded A r = Recorded (record { 0 = A }) r
+abbrev foundRecord : ℕ → Record → Finding
+foundRecord A r = Recorded (record { 0 = A }) r
 
-abbrev listed : ℕ → Finding
-listed A = Empty (record { 0 = A })
+abbrev foundEmpty : ℕ → Finding
+foundEmpty A = Empty (record { 0 = A })
 
-abbrev gap : (A A′ : ℕ) → Finding
-gap A A′ = Gap (record { 0 = A }) (record { 0 = A′ })
+abbrev foundGap : (A A′ : ℕ) → Finding
+foundGap A A′ = Gap (record { 0 = A }) (record { 0 = A′ })
 
 -- a row: what is looked at, and whether the list allows it or bears it out
-pub data Row : Type 0 where
-  permits : Wish → Row
-  forbids : Wish → Row
-  bears : (q : ℕ) → Finding → Row
-  denies : (q : ℕ) → Finding → Row
+pub data ListRow : Type 0 where
+  permits : Wish → ListRow
+  forbids : Wish → ListRow
+  bears : (q : ℕ) → Finding → ListRow
+  denies : (q : ℕ) → Finding → ListRow
 
-abbrev pub Says : (D : List ℕ → Dig) → Row → Type 0
-Says D (permits x) = Legal small x
-Says D (forbids x) = Legal small x → ⊥
-Says D (bears q f) = TrueFinding D q f small
-Says D (denies q f) = TrueFinding D q f small → ⊥
+abbrev pub ListRowSays : (D : List ℕ → Dig) → ListRow → Type 0
+ListRowSays D (permits x) = Legal small x
+ListRowSays D (forbids x) = Legal small x → ⊥
+ListRowSays D (bears q f) = TrueFinding D q f small
+ListRowSays D (denies q f) = TrueFinding D q f small → ⊥
 
 -- "to insert a number that isn't 0 and isn't listed, to remove a listed empty item, to swap the places of two listed items, to
 -- set a listed item, to clear a recorded one"; "every question on a number above 0"
-abbrev pub wishes : List Row
+abbrev pub wishes : List ListRow
 wishes =
     permits (insertItem 7)
     ∷ permits (insertItem (2 ^ 64 - 1))
@@ -101,39 +101,39 @@ wishes =
     ∷ []
 
 -- "every accepted answer on a record, an empty item or a gap is true of that list"
-abbrev pub findings : List Row
+abbrev pub findings : List ListRow
 findings =
     -- a record: that item's, every number of it, and only where there is one
-    bears 9 (recorded 9 rotor)
-    ∷ denies 9 (recorded 9 (recordOf 2 68900 1250 3))
-    ∷ denies 9 (recorded 9 (recordOf 3 61400 1250 3))
-    ∷ denies 9 (recorded 9 (recordOf 3 68900 1251 3))
-    ∷ denies 9 (recorded 9 (recordOf 3 68900 1250 4))
-    ∷ denies 5 (recorded 9 rotor)
-    ∷ denies 5 (recorded 5 rotor)
-    ∷ denies 5 (recorded 5 emptyRecord)
+    bears 9 (foundRecord 9 rotor)
+    ∷ denies 9 (foundRecord 9 (fourNumbers 2 68900 1250 3))
+    ∷ denies 9 (foundRecord 9 (fourNumbers 3 61400 1250 3))
+    ∷ denies 9 (foundRecord 9 (fourNumbers 3 68900 1251 3))
+    ∷ denies 9 (foundRecord 9 (fourNumbers 3 68900 1250 4))
+    ∷ denies 5 (foundRecord 9 rotor)
+    ∷ denies 5 (foundRecord 5 rotor)
+    ∷ denies 5 (foundRecord 5 emptyRecord)
     -- listed with no record
-    ∷ bears 5 (listed 5)
-    ∷ denies 9 (listed 9)
-    ∷ denies 9 (listed 5)
-    ∷ denies 7 (listed 7)
+    ∷ bears 5 (foundEmpty 5)
+    ∷ denies 9 (foundEmpty 9)
+    ∷ denies 9 (foundEmpty 5)
+    ∷ denies 7 (foundEmpty 7)
     -- a gap: between neighbours, round the end, and of numbers that lie in it
-    ∷ bears 7 (gap 5 9)
-    ∷ bears 12 (gap 9 5)
-    ∷ bears 2 (gap 9 5)
-    ∷ denies 5 (gap 5 9)
-    ∷ denies 9 (gap 5 9)
-    ∷ denies 12 (gap 5 9)
-    ∷ denies 7 (gap 9 5)
-    ∷ denies 0 (gap 9 5)
-    ∷ denies 7 (gap 5 5)
-    ∷ denies 7 (gap 5 12)
-    ∷ denies 9 (gap 5 12)
+    ∷ bears 7 (foundGap 5 9)
+    ∷ bears 12 (foundGap 9 5)
+    ∷ bears 2 (foundGap 9 5)
+    ∷ denies 5 (foundGap 5 9)
+    ∷ denies 9 (foundGap 5 9)
+    ∷ denies 12 (foundGap 5 9)
+    ∷ denies 7 (foundGap 9 5)
+    ∷ denies 0 (foundGap 9 5)
+    ∷ denies 7 (foundGap 5 5)
+    ∷ denies 7 (foundGap 5 12)
+    ∷ denies 9 (foundGap 5 12)
     ∷ []
 
-abbrev pub EveryRow : (D : List ℕ → Dig) → List Row → Type 0
-EveryRow D [] = Unit {0}
-EveryRow D (r ∷ l) = Says D r × EveryRow D l
+abbrev pub EveryListRow : (D : List ℕ → Dig) → List ListRow → Type 0
+EveryListRow D [] = Unit {0}
+EveryListRow D (r ∷ l) = ListRowSays D r × EveryListRow D l
 
 -- ── replies as bytes ──
 
@@ -184,16 +184,16 @@ questions =
     }
     ∷ []
 
-abbrev pub Replied : (D : List ℕ → Dig) → Question → Type 0
-Replied D x = (s : Registers) → s .opened ≡ true → length (s .root) ≡ 32 → Bytes (s .root)
+abbrev pub RepliedSo : (D : List ℕ → Dig) → Question → Type 0
+RepliedSo D x = (s : Registers) → s .opened ≡ true → length (s .root) ≡ 32 → Bytes (s .root)
     → (let m = memorandum D (v1 (digest D (leafOf D (x .A) (x .A′) (x .r))) (s .root)) (s .secret) in
     answerTo D s (digitsOf (x .frame ++ (s .root ++ m))) replyRoom .says ≡ x .says)
 
 abbrev pub EveryReply : (D : List ℕ → Dig) → List Question → Type 0
 EveryReply D [] = Unit {0}
-EveryReply D (x ∷ l) = Replied D x × EveryReply D l
+EveryReply D (x ∷ l) = RepliedSo D x × EveryReply D l
 
-pub record ByHand : Type 0 where
-  pub legal : (D : List ℕ → Dig) → EveryRow D wishes
-  pub true-findings : (D : List ℕ → Dig) → EveryRow D findings
+pub record ListByHand : Type 0 where
+  pub legal : (D : List ℕ → Dig) → EveryListRow D wishes
+  pub true-findings : (D : List ℕ → Dig) → EveryListRow D findings
   pub replies : (D : List ℕ → Dig) → ((l : List ℕ) → length (D l) ≡ 32) → ((l : List ℕ) → Bytes (D l)) → EveryReply D questions

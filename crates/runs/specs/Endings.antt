@@ -10,19 +10,19 @@ use Rattle.paper.specs.Requests.{requestOf}
 use Rattle.paper.specs.Refusals.{carried}
 use Rattle.paper.specs.Collisions.{Collision}
 use Rattle.rings.specs.Endings.{ZeroDigest}
-use Rattle.runs.specs.Run.{Turn, World, isIssued, toldAt, after}
+use Rattle.runs.specs.Run.{LineTurn, World, isIssued, toldAt, after}
 
 module _ (D : List ℕ → Dig) where
   -- an accepted line that carries a memorandum which no line before it issued
-  pub record Forged (w : World) (t : Turn) : Type 0 where
+  pub record Forged (w : World) (t : LineTurn) : Type 0 where
     pub accepted : toldAt D w t .refusal ≡ 0
     pub memorandum : Dig
     pub carries : List·Memᴰ memorandum (carried D (w .registers) (requestOf (bytesOf (t .line))))
     pub unissued : isIssued memorandum (w .book) ≡ false
 
   -- how a run may end; its turns are given the latest first
-  pub data Ending (secret : Dig) : List Turn → Type 0 where
-    collision : {ts : List Turn} → Collision D (after D secret ts .formed) → Ending secret ts
-    zero : {ts : List Turn} → ZeroDigest D (after D secret ts .formed) → Ending secret ts
-    forged : {ts : List Turn} (t : Turn) → Forged (after D secret ts) t → Ending secret (t ∷ ts)
-    earlier : {ts : List Turn} (t : Turn) → Ending secret ts → Ending secret (t ∷ ts)
+  pub data Ending (secret : Dig) : List LineTurn → Type 0 where
+    byCollision : {ts : List LineTurn} → Collision D (after D secret ts .formed) → Ending secret ts
+    byZeroDigest : {ts : List LineTurn} → ZeroDigest D (after D secret ts .formed) → Ending secret ts
+    byForgery : {ts : List LineTurn} (t : LineTurn) → Forged (after D secret ts) t → Ending secret (t ∷ ts)
+    earlier : {ts : List LineTurn} (t : LineTurn) → Ending secret ts → Ending secret (t ∷ ts)

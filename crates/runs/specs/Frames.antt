@@ -11,7 +11,7 @@ use Rattle.paper.specs.declared.Values.{Values}
 use Rattle.paper.specs.Strings.{Dig, numbers, nums, spread}
 use Rattle.paper.specs.Requests.{Request, path, witness, join, pair, raise, swap, first, place, turn, chain, adopt, setTo, clear, ask, askNone, unlock}
 use Rattle.paper.specs.Refusals.{replyRoom}
-use Rattle.runs.specs.Run.{Turn}
+use Rattle.runs.specs.Run.{LineTurn}
 
 -- lists of bytes one behind the other
 abbrev pub together : List (List ℕ) → List ℕ
@@ -29,37 +29,37 @@ abbrev pub pathBytes : (sides : ℕ) → List Dig → List ℕ
 pathBytes sides l = length l ∷ (be64 sides ++ together l)
 
 -- a kind, and the things that it carries, each as bytes
-pub record Written : Type 0 where
+pub record FrameParts : Type 0 where
   pub kind : ℕ
   pub parts : List (List ℕ)
 
-abbrev pub written : Request → Written
-written (path x x′ sides l) = record { kind = 0x01; parts = x ∷ x′ ∷ pathBytes sides l ∷ [] }
-written (witness x y m) = record { kind = 0x02; parts = x ∷ y ∷ m ∷ [] }
-written (join x y x′ y′ m1 z z′ m2) = record { kind = 0x03; parts = x ∷ y ∷ x′ ∷ y′ ∷ m1 ∷ z ∷ z′ ∷ m2 ∷ [] }
-written (pair x1 y x1′ y′ m1 x2 z x2′ z′ m2) =
+abbrev pub partsOf : Request → FrameParts
+partsOf (path x x′ sides l) = record { kind = 0x01; parts = x ∷ x′ ∷ pathBytes sides l ∷ [] }
+partsOf (witness x y m) = record { kind = 0x02; parts = x ∷ y ∷ m ∷ [] }
+partsOf (join x y x′ y′ m1 z z′ m2) = record { kind = 0x03; parts = x ∷ y ∷ x′ ∷ y′ ∷ m1 ∷ z ∷ z′ ∷ m2 ∷ [] }
+partsOf (pair x1 y x1′ y′ m1 x2 z x2′ z′ m2) =
     record { kind = 0x04; parts = x1 ∷ y ∷ x1′ ∷ y′ ∷ m1 ∷ x2 ∷ z ∷ x2′ ∷ z′ ∷ m2 ∷ [] }
-written (raise x1 x2 y x1′ x2′ y′ m1 z z′ m2) =
+partsOf (raise x1 x2 y x1′ x2′ y′ m1 z z′ m2) =
     record { kind = 0x05; parts = x1 ∷ x2 ∷ y ∷ x1′ ∷ x2′ ∷ y′ ∷ m1 ∷ z ∷ z′ ∷ m2 ∷ [] }
-written (swap x1 x2 y y′ m) = record { kind = 0x06; parts = x1 ∷ x2 ∷ y ∷ y′ ∷ m ∷ [] }
-written (first A) = record { kind = 0x07; parts = be64 A ∷ [] }
-written (place A A′ B′ ω y y′ m) =
+partsOf (swap x1 x2 y y′ m) = record { kind = 0x06; parts = x1 ∷ x2 ∷ y ∷ y′ ∷ m ∷ [] }
+partsOf (first A) = record { kind = 0x07; parts = be64 A ∷ [] }
+partsOf (place A A′ B′ ω y y′ m) =
     record { kind = 0x08; parts = be64 A ∷ be64 A′ ∷ be64 B′ ∷ ω ∷ y ∷ y′ ∷ m ∷ [] }
-written (turn x y m) = record { kind = 0x09; parts = x ∷ y ∷ m ∷ [] }
-written (chain x y m1 z m2) = record { kind = 0x0a; parts = x ∷ y ∷ m1 ∷ z ∷ m2 ∷ [] }
-written (adopt y y′ m) = record { kind = 0x0b; parts = y ∷ y′ ∷ m ∷ [] }
-written (setTo A A′ old v y y′ m) =
+partsOf (turn x y m) = record { kind = 0x09; parts = x ∷ y ∷ m ∷ [] }
+partsOf (chain x y m1 z m2) = record { kind = 0x0a; parts = x ∷ y ∷ m1 ∷ z ∷ m2 ∷ [] }
+partsOf (adopt y y′ m) = record { kind = 0x0b; parts = y ∷ y′ ∷ m ∷ [] }
+partsOf (setTo A A′ old v y y′ m) =
     record { kind = 0x0c; parts = be64 A ∷ be64 A′ ∷ recordBytes old ∷ valuesBytes v ∷ y ∷ y′ ∷ m ∷ [] }
-written (clear A A′ old y y′ m) =
+partsOf (clear A A′ old y y′ m) =
     record { kind = 0x0d; parts = be64 A ∷ be64 A′ ∷ recordBytes old ∷ y ∷ y′ ∷ m ∷ [] }
-written (ask q A A′ r y m) =
+partsOf (ask q A A′ r y m) =
     record { kind = 0x0e; parts = be64 q ∷ be64 A ∷ be64 A′ ∷ recordBytes r ∷ y ∷ m ∷ [] }
-written (askNone q) = record { kind = 0x0f; parts = be64 q ∷ [] }
-written (unlock k) = record { kind = 0x10; parts = k ∷ [] }
+partsOf (askNone q) = record { kind = 0x0f; parts = be64 q ∷ [] }
+partsOf (unlock k) = record { kind = 0x10; parts = k ∷ [] }
 
 -- the frame of a request
 abbrev pub frameOf : Request → List ℕ
-frameOf q = written q .kind ∷ together (written q .parts)
+frameOf q = partsOf q .kind ∷ together (partsOf q .parts)
 
 -- its line, without 0A
 abbrev pub lineFor : Request → List ℕ
@@ -70,9 +70,9 @@ linesOf [] = []
 linesOf (q ∷ qs) = lineFor q ∷ linesOf qs
 
 -- with "reply space of 195 bytes"
-abbrev pub turnOf : Request → Turn
+abbrev pub turnOf : Request → LineTurn
 turnOf q = record { line = lineFor q; space = replyRoom }
 
-abbrev pub turnsOf : List Request → List Turn
+abbrev pub turnsOf : List Request → List LineTurn
 turnsOf [] = []
 turnsOf (q ∷ qs) = turnOf q ∷ turnsOf qs

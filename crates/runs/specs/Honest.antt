@@ -11,15 +11,15 @@ use Rattle.paper.specs.Strings.{Dig, nought, Memo, u1, v1, u2, ei, leaf, emptyR
 use Rattle.paper.specs.Requests.{Request, path, witness, join, pair, raise, swap, first, place, turn, adopt, setTo, clear, ask, askNone, mostSiblings}
 use Rattle.paper.specs.Refusals.{nextRecord, clearedRecord, leafOf}
 use Rattle.rings.specs.Trees.{Tree, tip, hashOf}
-use Rattle.rings.specs.Lists.{item}
+use Rattle.rings.specs.Lists.{itemWith}
 use Rattle.runs.specs.Run.{Items}
 use Rattle.runs.specs.Wishes.{Wish, insertItem, removeItem, swapPlaces, setRecord, clearRecord, askAbout}
-use Rattle.runs.specs.Ways.{itemOf, nextOf, hashIn, isOf, leadsTo, gapHolds, tellsOf, Way, found, wayTo, sidesOf, siblingsOf, cut, Fork, forkOf, halves, leftOne, rightOne, Edit, risen, parents, risenTwo}
+use Rattle.runs.specs.Ways.{itemOf, nextOf, hashIn, isOf, leadsTo, gapHolds, tellsOf, Way, found, wayTo, sidesOf, siblingsOf, inPaths, Fork, forkOf, halves, leftOne, rightOne, Edit, risen, parents, risenTwo}
 
 -- the record of item A in the list
 abbrev pub recordOf : (A : ℕ) → Items → Record
 recordOf A [] = emptyRecord
-recordOf A (item a r ∷ l) = pick (eqb A a) r (recordOf A l)
+recordOf A (itemWith a r ∷ l) = pick (eqb A a) r (recordOf A l)
 
 -- ── what memoranda say, of digests that change ──
 
@@ -36,8 +36,8 @@ abbrev pub sayEI : (y : Edit) → Memo
 sayEI y = ei (y .was) (y .becomes)
 
 -- a change the other way
-abbrev pub turned : Edit → Edit
-turned y = record { was = y .becomes; becomes = y .was }
+abbrev pub turnedRound : Edit → Edit
+turnedRound y = record { was = y .becomes; becomes = y .was }
 
 module _ (D : List ℕ → Dig) (s : Registers) where
   -- the memorandum that says t, as this module issues it. A tablet has no secret: it copies the memorandum out of the reply
@@ -63,7 +63,7 @@ module _ (D : List ℕ → Dig) (s : Registers) where
 
   abbrev pub onePlace : Way → Edit → List Request
   onePlace p x =
-      let c = cut mostSiblings p in
+      let c = inPaths mostSiblings p in
       pathUp (c .lowest) x ∷ further x (risen D (c .lowest) x) (c .higher)
 
   -- ── U2 up a fork, a being at its left foot and b at its right ──
@@ -136,12 +136,12 @@ module _ (D : List ℕ → Dig) (s : Registers) where
       let x = found (gapHolds A) T in
       let f = halves (wayTo (gapHolds A) T) in
       let y = without f (itemOf x) A (nextOf x) (hashIn x) in
-      placed f (itemOf x) A (nextOf x) (hashIn x) ++ (turnRound y ∷ takeOver (turned y) ∷ [])
+      placed f (itemOf x) A (nextOf x) (hashIn x) ++ (turnRound y ∷ takeOver (turnedRound y) ∷ [])
 
   -- the only item by first, turned round; else by place, the leaf that leads to A and A's own in whichever order they stand
   abbrev pub removeLines : (A : ℕ) → Tree → Items → List Request
   removeLines A T [] = []
-  removeLines A T (i ∷ []) = first A ∷ turnRound (alone A) ∷ takeOver (turned (alone A)) ∷ []
+  removeLines A T (i ∷ []) = first A ∷ turnRound (alone A) ∷ takeOver (turnedRound (alone A)) ∷ []
   removeLines A T (i ∷ j ∷ l) =
       let x = found (leadsTo A) T in
       let z = found (isOf A) T in
@@ -154,8 +154,8 @@ module _ (D : List ℕ → Dig) (s : Registers) where
   swapLines A B T =
       let e : Edit = record { was = hashOf D (tip (found (isOf A) T)); becomes = hashOf D (tip (found (isOf B) T)) } in
       let f = forkOf (isOf A) (isOf B) T in
-      let a = leftOne f e (turned e) in
-      let b = rightOne f e (turned e) in
+      let a = leftOne f e (turnedRound e) in
+      let b = rightOne f e (turnedRound e) in
       let y = risenTwo D f a b in
       twoPlaces f a b ++ (swap (a .was) (b .was) (y .was) (y .becomes) (note (sayU2 a b y)) ∷ takeOver y ∷ [])
 

@@ -19,11 +19,11 @@ use Rattle.paper.specs.Requests.{requestOf}
 use Rattle.paper.specs.Refusals.{replyRoom, top, carried}
 use Rattle.paper.specs.Answers.{findingBytes}
 use Rattle.rings.specs.Trees.{Tree, hashOf}
-use Rattle.runs.specs.Run.{Turn, Items, last, Issue, isIssued, World, toldAt, next, after}
+use Rattle.runs.specs.Run.{LineTurn, Items, last, Issue, isIssued, World, toldAt, next, after}
 use Rattle.runs.specs.Endings.{Ending}
 use Rattle.runs.specs.Safety.{Stands, TrueFinding}
 use Rattle.runs.specs.Wishes.{Wish, insertItem, removeItem, swapPlaces, setRecord, clearRecord, askAbout, Legal}
-use Rattle.runs.specs.Outcomes.{itemsAfter, registersAfter, Moved}
+use Rattle.runs.specs.Outcomes.{itemsAfter, registersAfter, LeavesMoved}
 use Rattle.runs.specs.Frames.{linesOf}
 use Rattle.runs.specs.Honest.{honestLines}
 use Rattle.runs.specs.TreesAfter.{treeAfter}
@@ -45,7 +45,7 @@ AllIssued [] b = Unit {0}
 AllIssued (m ∷ ms) b = (isIssued m b ≡ true) × AllIssued ms b
 
 -- turns that take these lines, each with "reply space of 195 bytes or more"
-abbrev pub Spaced : (lines : List (List ℕ)) → List Turn → Type 0
+abbrev pub Spaced : (lines : List (List ℕ)) → List LineTurn → Type 0
 Spaced [] [] = Unit {0}
 Spaced [] (t ∷ us) = ⊥
 Spaced (l ∷ ls) [] = ⊥
@@ -54,19 +54,19 @@ Spaced (l ∷ ls) (t ∷ us) = (t .line ≡ l) × (replyRoom ≤ t .space) × Sp
 module _ (D : List ℕ → Dig) where
   -- ── lines fed in turn ──
 
-  abbrev pub fed : World → List Turn → World
+  abbrev pub fed : World → List LineTurn → World
   fed w [] = w
   fed w (t ∷ ts) = fed (next D last w t) ts
 
   -- each is accepted where it comes, and carries only memoranda issued before it
-  abbrev pub Honest : World → List Turn → Type 0
+  abbrev pub Honest : World → List LineTurn → Type 0
   Honest w [] = Unit {0}
   Honest w (t ∷ ts) =
       (toldAt D w t .refusal ≡ 0) × AllIssued (carried D (w .registers) (requestOf (bytesOf (t .line)))) (w .book)
       × Honest (next D last w t) ts
 
   -- the reply to the last of them, as bytes
-  abbrev pub lastReply : World → List Turn → List ℕ
+  abbrev pub lastReply : World → List LineTurn → List ℕ
   lastReply w [] = []
   lastReply w (t ∷ []) = toldAt D w t .says
   lastReply w (t ∷ u ∷ ts) = lastReply (next D last w t) (u ∷ ts)
@@ -79,30 +79,30 @@ module _ (D : List ℕ → Dig) where
     nothing-listed : l ≡ [] → says ≡ 0x8f ∷ be64 q → TrueReply q l says
 
   -- changes only have to be done
-  abbrev pub Answered : Wish → Items → (says : List ℕ) → Type 0
-  Answered (insertItem A) l says = Unit {0}
-  Answered (removeItem A) l says = Unit {0}
-  Answered (swapPlaces A B) l says = Unit {0}
-  Answered (setRecord A v) l says = Unit {0}
-  Answered (clearRecord A) l says = Unit {0}
-  Answered (askAbout q) l says = TrueReply q l says
+  abbrev pub AnsweredTruly : Wish → Items → (says : List ℕ) → Type 0
+  AnsweredTruly (insertItem A) l says = Unit {0}
+  AnsweredTruly (removeItem A) l says = Unit {0}
+  AnsweredTruly (swapPlaces A B) l says = Unit {0}
+  AnsweredTruly (setRecord A v) l says = Unit {0}
+  AnsweredTruly (clearRecord A) l says = Unit {0}
+  AnsweredTruly (askAbout q) l says = TrueReply q l says
 
   -- Turns that do just what is wanted at a world that the tree T stands for: a tree stands for the list again, the list, the
   -- registers and the places of leaves are those of `Outcomes`, and a question is answered truly.
-  pub record Grants (w : World) (T : Tree) (x : Wish) (us : List Turn) : Type 0 where
+  pub record Grants (w : World) (T : Tree) (x : Wish) (us : List LineTurn) : Type 0 where
     pub honest : Honest w us
     pub items : fed w us .items ≡ itemsAfter (w .registers) (w .items) x
     pub stands : Stands D (fed w us)
     pub registers : fed w us .registers ≡ registersAfter (w .registers) (hashOf D (stands .tree)) x
-    pub moved : Moved x T (stands .tree)
-    pub answered : Answered x (w .items) (lastReply w us)
+    pub moved : LeavesMoved x T (stands .tree)
+    pub answered : AnsweredTruly x (w .items) (lastReply w us)
 
   -- ── there are such lines ──
 
   -- lines as bytes, without their 0A, that do so whatever their reply spaces
   pub record Grantable (w : World) (T : Tree) (x : Wish) : Type 0 where
     pub lines : List (List ℕ)
-    pub grant : (us : List Turn) → Spaced lines us → Grants w T x us
+    pub grant : (us : List LineTurn) → Spaced lines us → Grants w T x us
 
   -- at any world that a tree stands for, however it came about
   abbrev pub AllGrantable : Type 0
@@ -117,7 +117,7 @@ module _ (D : List ℕ → Dig) where
 
   abbrev pub LiveOrEnded : Type 0
   LiveOrEnded =
-      (secret : Dig) (ts : List Turn) → after D secret ts .registers .opened ≡ true
+      (secret : Dig) (ts : List LineTurn) → after D secret ts .registers .opened ≡ true
       → after D secret ts .registers .counter .0 < top → Ending D secret ts ⊎ Live (after D secret ts)
 
   -- ── functions that give them ──
@@ -127,14 +127,14 @@ module _ (D : List ℕ → Dig) where
   linesFor w T x = linesOf (honestLines D (w .registers) T (w .items) x)
 
   -- they grant it, and the tree after them is that of `TreesAfter`
-  pub record Granted (w : World) (T : Tree) (x : Wish) (us : List Turn) : Type 0 where
+  pub record Granted (w : World) (T : Tree) (x : Wish) (us : List LineTurn) : Type 0 where
     pub grants : Grants w T x us
     pub tree : grants .stands .tree ≡ treeAfter D (w .registers) T (w .items) x
 
   abbrev pub FunctionsGrant : Type 0
   FunctionsGrant =
       (w : World) (s : Stands D w) → w .registers .opened ≡ true → w .registers .counter .0 < top → (x : Wish)
-      → Legal (w .items) x → (us : List Turn) → Spaced (linesFor (latestFirst w) (s .tree) x) us
+      → Legal (w .items) x → (us : List LineTurn) → Spaced (linesFor (latestFirst w) (s .tree) x) us
       → Granted (latestFirst w) (s .tree) x us
 
   pub record LivenessFor : Type 0 where
@@ -146,4 +146,4 @@ module _ (D : List ℕ → Dig) where
 pub record Liveness : Type 0 where
   pub at-sha256 : LivenessFor sha256
   pub at-any : (D : List ℕ → Dig) → ((l : List ℕ) → length (D l) ≡ 32) → ((l : List ℕ) → Bytes (D l)) → LivenessFor D
-  pub taken : (lines : List (List ℕ)) → (us : List Turn) × Spaced lines us
+  pub taken : (lines : List (List ℕ)) → (us : List LineTurn) × Spaced lines us

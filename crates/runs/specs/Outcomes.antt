@@ -54,10 +54,10 @@ pub record Exchanged (A B : ℕ) (before after : List Leaf) : Type 0 where
   pub becomes : after ≡ front ++ (right ∷ (between ++ (left ∷ back)))
 
 -- "to swap the places of two listed items". Of the other wishes the list says it all: where their leaves stand is free
-abbrev pub Moved : Wish → (before after : Tree) → Type 0
-Moved (insertItem A) T U = Unit {0}
-Moved (removeItem A) T U = Unit {0}
-Moved (swapPlaces A B) T U = SameShape T U × Exchanged A B (leaves T) (leaves U)
-Moved (setRecord A v) T U = Unit {0}
-Moved (clearRecord A) T U = Unit {0}
-Moved (askAbout q) T U = Unit {0}
+abbrev pub LeavesMoved : Wish → (before after : Tree) → Type 0
+LeavesMoved (insertItem A) T U = Unit {0}
+LeavesMoved (removeItem A) T U = Unit {0}
+LeavesMoved (swapPlaces A B) T U = SameShape T U × Exchanged A B (leaves T) (leaves U)
+LeavesMoved (setRecord A v) T U = Unit {0}
+LeavesMoved (clearRecord A) T U = Unit {0}
+LeavesMoved (askAbout q) T U = Unit {0}

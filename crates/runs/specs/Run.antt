@@ -8,13 +8,13 @@ use Rattle.paper.specs.declared.Record.{Record}
 use Rattle.paper.specs.declared.Registers.{Registers}
 use Rattle.paper.specs.Strings.{Dig, Str, memorandum}
 use Rattle.paper.specs.Answers as Does
-use Rattle.paper.specs.Answers.{Change, Effect, none′, issues, adopts, changes}
+use Rattle.paper.specs.Answers.{ListChange, Effect, none′, issues, adopts, changes}
 use Rattle.paper.specs.Module.{unopened, Told, answerTo}
-use Rattle.rings.specs.Lists.{Item, putRecord}
+use Rattle.rings.specs.Lists.{ListItem, putRecord}
 use Rattle.rings.specs.Changes.{Step, insertion, removal, doSteps, reversed}
 
 -- a line as bytes, without its 0A, and the bytes of its reply space
-pub record Turn : Type 0 where
+pub record LineTurn : Type 0 where
   pub line : List ℕ
   pub space : ℕ
 
@@ -22,7 +22,7 @@ pub record Turn : Type 0 where
 
 -- the list that the root stands for
 abbrev pub Items : Type 0
-Items = List (Item Record)
+Items = List (ListItem Record)
 
 -- a memorandum issued, and what the line that issued it does
 pub record Issue : Type 0 where
@@ -53,12 +53,12 @@ isIssued m [] = false
 isIssued m (i ∷ b) = either (same (i .memorandum) m) (isIssued m b)
 
 -- what a line does that issues a memorandum, the others being read in the book b
-abbrev pub meaning : List Issue → Change → List Step
+abbrev pub meaning : List Issue → ListChange → List Step
 meaning b Does.nothing = []
 meaning b (Does.adds A) = insertion A ∷ []
 meaning b (Does.removes A) = removal A ∷ []
 meaning b (Does.reverses m) = reversed (standsFor m b)
-meaning b (Does.both m1 m2) = standsFor m1 b ++ standsFor m2 b
+meaning b (Does.bothInOrder m1 m2) = standsFor m1 b ++ standsFor m2 b
 
 -- ── what a run comes to ──
 
@@ -95,7 +95,7 @@ module _ (D : List ℕ → Dig) where
   counted w (changes A r) = w .changed + 1
 
   -- the answer to a line, and the world after it
-  abbrev pub toldAt : World → Turn → Told
+  abbrev pub toldAt : World → LineTurn → Told
   toldAt w t = answerTo D (w .registers) (t .line) (t .space)
 
   abbrev pub start : (secret : Dig) → World
@@ -112,13 +112,13 @@ module _ (D : List ℕ → Dig) where
           changed = counted w (a .effect);
         }
 
-    abbrev pub next : World → Turn → World
+    abbrev pub next : World → LineTurn → World
     next w t = landed w (toldAt w t)
 
     -- the world after some turns, the latest first
-    abbrev pub replay : (secret : Dig) → List Turn → World
+    abbrev pub replay : (secret : Dig) → List LineTurn → World
     replay k [] = start k
     replay k (t ∷ ts) = next (replay k ts) t
 
-  abbrev pub after : (secret : Dig) → List Turn → World
+  abbrev pub after : (secret : Dig) → List LineTurn → World
   after k ts = replay ofRuns k ts

@@ -17,9 +17,9 @@ use Rattle.paper.specs.Refusals.{clearedRecord}
 use Rattle.paper.specs.Answers.{Effect, none′, issues, adopts, changes, findingBytes, findingIn}
 use Rattle.paper.specs.Module.{unopened}
 use Rattle.rings.specs.Trees.{Tree, points, leaves, hashOf, Permuted}
-use Rattle.rings.specs.Lists.{Ascending, Listed, Unlisted, ring}
+use Rattle.rings.specs.Lists.{Ascending, OnList, Unlisted, ring}
 use Rattle.rings.specs.Changes.{LegalSteps}
-use Rattle.runs.specs.Run.{Turn, Items, standsFor, World, toldAt, after}
+use Rattle.runs.specs.Run.{LineTurn, Items, standsFor, World, toldAt, after}
 use Rattle.runs.specs.Sizes.{ItemsFit}
 use Rattle.runs.specs.Endings.{Ending}
 
@@ -40,12 +40,12 @@ module _ (D : List ℕ → Dig) where
 
   -- A and A' are neighbours: the ring has a leaf from A to A'
   abbrev pub Neighbours : (A A′ : ℕ) → Items → Type 0
-  Neighbours A A′ l = (r : Record) × Listed A r l × List·Memᴰ (points A A′ (recordHash D r)) (ring (recordHash D) l)
+  Neighbours A A′ l = (r : Record) × OnList A r l × List·Memᴰ (points A A′ (recordHash D r)) (ring (recordHash D) l)
 
   -- "every accepted answer on a record, an empty item or a gap is true of that list"
   abbrev pub TrueFinding : (q : ℕ) → Finding → Items → Type 0
-  TrueFinding q (Recorded A r) l = (q ≡ A .0) × (blank r ≡ false) × Listed (A .0) r l
-  TrueFinding q (Empty A) l = (q ≡ A .0) × Listed (A .0) emptyRecord l
+  TrueFinding q (Recorded A r) l = (q ≡ A .0) × (blank r ≡ false) × OnList (A .0) r l
+  TrueFinding q (Empty A) l = (q ≡ A .0) × OnList (A .0) emptyRecord l
   TrueFinding q (Gap A A′) l = (inGap q (A .0) (A′ .0) ≡ true) × Unlisted q l × Neighbours (A .0) (A′ .0) l
 
   -- An accepted question and its reply, as bytes: the line's frame f and what the reply says. An ask is answered by 8e and a
@@ -62,16 +62,16 @@ module _ (D : List ℕ → Dig) where
   LegalEffect w (issues t c) = Unit {0}
   LegalEffect w (adopts m) = LegalSteps (standsFor m (w .book)) (w .items)
   LegalEffect w (changes A r) =
-      (s : Record) × Listed A s (w .items) × (blank r ≡ true → blank s ≡ false)
+      (s : Record) × OnList A s (w .items) × (blank r ≡ true → blank s ≡ false)
       × ((r .revision .0 ≡ w .registers .counter .0 + 1) ⊎ (r ≡ clearedRecord))
 
   -- one line at its world
-  pub record Fair (w : World) (t : Turn) : Type 0 where
+  pub record Fair (w : World) (t : LineTurn) : Type 0 where
     pub true-answer : toldAt D w t .refusal ≡ 0 → TrueAnswer (bytesOf (t .line)) (toldAt D w t .says) (w .items)
     pub legal : LegalEffect w (toldAt D w t .effect)
 
   -- every line so far
-  abbrev pub AllFair : (secret : Dig) → List Turn → Type 0
+  abbrev pub AllFair : (secret : Dig) → List LineTurn → Type 0
   AllFair k [] = Unit {0}
   AllFair k (t ∷ ts) = Fair (after D k ts) t × AllFair k ts
 
@@ -83,14 +83,14 @@ module _ (D : List ℕ → Dig) where
     pub listed : w .items ≡ []
     pub changed : w .changed ≡ 0
 
-  pub record Safe (secret : Dig) (ts : List Turn) : Type 0 where
+  pub record Safe (secret : Dig) (ts : List LineTurn) : Type 0 where
     pub stands : Stands (after D secret ts)
     pub fair : AllFair secret ts
     pub closed : after D secret ts .registers .opened ≡ false → Untouched secret (after D secret ts)
 
   -- after any lines, however damaged
   abbrev pub SafeOrEnded : Type 0
-  SafeOrEnded = (secret : Dig) (ts : List Turn) → Ending D secret ts ⊎ Safe secret ts
+  SafeOrEnded = (secret : Dig) (ts : List LineTurn) → Ending D secret ts ⊎ Safe secret ts
 
 -- for SHA-256, and for any digest of 32 bytes
 pub record Safety : Type 0 where

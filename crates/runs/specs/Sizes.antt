@@ -6,7 +6,7 @@ use Prim.Native.Nat.{ℕ, _<_, _^_}
 use Rattle.paper.specs.declared.Record.{Record}
 use Rattle.paper.specs.declared.Values.{Values}
 use Rattle.paper.specs.Strings.{malformed}
-use Rattle.rings.specs.Lists.{Listed}
+use Rattle.rings.specs.Lists.{OnList}
 use Rattle.runs.specs.Run.{Items}
 
 -- "Numbers are 8 bytes"
@@ -27,4 +27,4 @@ pub record ItemFits (A : ℕ) (r : Record) : Type 0 where
 
 -- every listed one
 abbrev pub ItemsFit : Items → Type 0
-ItemsFit l = (A : ℕ) (r : Record) → Listed A r l → ItemFits A r
+ItemsFit l = (A : ℕ) (r : Record) → OnList A r l → ItemFits A r

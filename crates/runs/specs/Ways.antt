@@ -82,17 +82,17 @@ rise D (onLeft S ∷ p) x = rise D p (H D (hashOf D S) x)
 rise D (onRight S ∷ p) x = rise D p (H D x (hashOf D S))
 
 -- "up to 64 siblings": a way of any length as a lowest path and paths above it
-pub record Cut : Type 0 where
+pub record WayInPaths : Type 0 where
   pub lowest : Way
   pub higher : List Way
 
 -- the lowest path having room for so many levels more
-abbrev pub cut : (room : ℕ) → Way → Cut
-cut room [] = record { lowest = []; higher = [] }
-cut zero (v ∷ p) =
-    let c = cut (mostSiblings - 1) p in
+abbrev pub inPaths : (room : ℕ) → Way → WayInPaths
+inPaths room [] = record { lowest = []; higher = [] }
+inPaths zero (v ∷ p) =
+    let c = inPaths (mostSiblings - 1) p in
     record { lowest = []; higher = (v ∷ c .lowest) ∷ c .higher }
-cut (suc room) (v ∷ p) = let c = cut room p in record { lowest = v ∷ c .lowest; higher = c .higher }
+inPaths (suc room) (v ∷ p) = let c = inPaths room p in record { lowest = v ∷ c .lowest; higher = c .higher }
 
 -- ── two leaves ──
 

@@ -7,7 +7,7 @@ use Prim.Native.Nat.{ℕ, _<_}
 use Rattle.paper.specs.declared.Record.{Record}
 use Rattle.paper.specs.declared.Values.{Values}
 use Rattle.paper.specs.Strings.{emptyRecord, blank}
-use Rattle.rings.specs.Lists.{Listed, Unlisted}
+use Rattle.rings.specs.Lists.{OnList, Unlisted}
 use Rattle.runs.specs.Run.{Items}
 use Rattle.runs.specs.Sizes.{InEightBytes, ValuesFit}
 
@@ -20,14 +20,14 @@ pub data Wish : Type 0 where
   askAbout : (q : ℕ) → Wish
 
 abbrev pub IsListed : (A : ℕ) → Items → Type 0
-IsListed A l = (r : Record) × Listed A r l
+IsListed A l = (r : Record) × OnList A r l
 
 -- "to insert a number that isn't 0 and isn't listed, to remove a listed empty item, to swap the places of two listed items,
 -- to set a listed item, to clear a recorded one"; "every question on a number above 0"
 abbrev pub Legal : Items → Wish → Type 0
 Legal l (insertItem A) = (0 < A) × InEightBytes A × Unlisted A l
-Legal l (removeItem A) = Listed A emptyRecord l
+Legal l (removeItem A) = OnList A emptyRecord l
 Legal l (swapPlaces A B) = (A ≢ B) × IsListed A l × IsListed B l
 Legal l (setRecord A v) = IsListed A l × ValuesFit v
-Legal l (clearRecord A) = (r : Record) × Listed A r l × (blank r ≡ false)
+Legal l (clearRecord A) = (r : Record) × OnList A r l × (blank r ≡ false)
 Legal l (askAbout q) = (0 < q) × InEightBytes q

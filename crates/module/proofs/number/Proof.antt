@@ -1,7 +1,7 @@
 -- By the reader's two cases.
 use mathlib.Core.Path.{refl}
 use borrow.Author.Needs.{needs}
-use Rattle.module.specs.Work.{numberOf}
+use Rattle.module.specs.Work.{refusalIn}
 use Rattle.module.proofs.number.Statement.{statement}
 use Rattle.module.proofs.number.Tie as tie
 
@@ -12,11 +12,11 @@ enum-told : tie.Need-enum-told
 enum-told c = search needs
 
 returns : tie.Need-returns
-unfolding numberOf
+unfolding refusalIn
 returns c = rw (c .before .got .given .1) refl
 
 returns-2 : tie.Need-returns-2
-unfolding numberOf
+unfolding refusalIn
 returns-2 c = rw (c .enum-told .given .1) refl
 
 pub number-spec : {M : Type 1} → statement M
