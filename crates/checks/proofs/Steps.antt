@@ -14,9 +14,9 @@ use Rattle.sha256.specs.Hash.{sha256}
 use Rattle.paper.specs.declared.Registers.{Registers}
 use Rattle.paper.specs.Strings.{Dig, Memo, Str, memorandum, memorandumForms, cost}
 use Rattle.paper.specs.Requests as Q
-use Rattle.paper.specs.Refusals.{Check, plain, requestOrder, noneFits, tried, needs, Verdict, refused, passed, judge}
+use Rattle.paper.specs.Refusals.{Check, plain, requestOrder, noneFits, tried, needs, Verdict, refusedBy, allPassed, judge}
 use Rattle.paper.specs.Answers.{answer}
-use Rattle.paper.specs.Module.{told}
+use Rattle.paper.specs.Module.{toldBy}
 use Rattle.paper.specs.Ceilings.{ceiling}
 use Rattle.paper.proofs.Ceilings.{cost-append, request-cost}
 use Rattle.digests.specs.declared.Digest.{Digest}
@@ -24,33 +24,33 @@ use Rattle.digests.specs.declared.Says.{Says}
 use Rattle.digests.specs.Speaking.{Spoken, madeOf}
 use Rattle.digests.proofs.Speaking.{made-of}
 use Rattle.replies.specs.declared.Outcome.{Outcome}
-use Rattle.replies.specs.Outcomes.{outcomeOf, outcome, refusal, answerLength, acceptance}
+use Rattle.replies.specs.Outcomes.{outcomeOf, outcomeFor, refusal, answerLength, acceptance}
 use Rattle.places.specs.Places.{requestAt}
 use Rattle.places.proofs.Places.{answer-short}
 use Rattle.checks.specs.declared.Judged.{Judged}
-use Rattle.checks.specs.Steps.{unjudged, blocksMore, afterCheck, Next, afterWork, Worked, Formed, afterChecks, Ran, ending, Finished, Concludes, memoCheck, comparing, Compared, comparingEither, ComparedEither, issuing, Issued}
+use Rattle.checks.specs.Steps.{unjudged, blocksMore, afterCheck, CheckMade, afterWork, WorkAdded, StringsFormed, afterChecks, Ran, outcomeAtEnd, Finished, Concludes, memoCheck, comparing, MemoCompared, comparingEither, MemoComparedEither, issuing, MemoIssued}
 
 -- ── one check ──
 
 -- after one that failed nothing is done
-pub stopped : {j : Judged} {c : Check} → j .stopped ≡ true → Next j c j
+pub stopped : {j : Judged} {c : Check} → j .stopped ≡ true → CheckMade j c j
 unfolding afterCheck
 stopped e = record { is = rw e refl }
 
 pub going : {j : Judged} {c : Check} {k : ℕ} → j .stopped ≡ false → k ≡ blocksMore j (cost (c .forms))
-    → Next j c (record { stopped = c .fails; number = c .number; blocks = k })
+    → CheckMade j c (record { stopped = c .fails; number = c .number; blocks = k })
 unfolding afterCheck
 going {j} e h = record { is = rw (e, h) refl }
 
 -- blocks worked, as many as some strings cost
-pub formed : (fs : List Str) {j k : Judged} {n : ℕ} → Worked j n k → n ≡ cost fs → Formed j fs k
+pub formed : (fs : List Str) {j k : Judged} {n : ℕ} → WorkAdded j n k → n ≡ cost fs → StringsFormed j fs k
 formed fs {j} w e = record { is = w .is ∙ ap (afterWork j) e }
 
 -- a check and those behind it
-pub step : {i j k : Judged} {c : Check} {l : List Check} → Next i c j → Ran j l k → Ran i (c ∷ l) k
+pub step : {i j k : Judged} {c : Check} {l : List Check} → CheckMade i c j → Ran j l k → Ran i (c ∷ l) k
 step {l = l} e r = record { is = r .is ∙ ap (λ (x : Judged). afterChecks x l) (e .is) }
 
-pub last : {j k : Judged} {c : Check} → Next j c k → Ran j (c ∷ []) k
+pub last : {j k : Judged} {c : Check} → CheckMade j c k → Ran j (c ∷ []) k
 last e = record { is = e .is }
 
 -- some checks, then others
@@ -71,15 +71,15 @@ still [] j e = record { is = refl }
 still (c ∷ l) j e = step (stopped e) (still l j e)
 
 -- the same check, said in another way
-pub same-check : {j k : Judged} {c d : Check} → Next j c k → c ≡ d → Next j d k
+pub same-check : {j k : Judged} {c d : Check} → CheckMade j c k → c ≡ d → CheckMade j d k
 same-check {j} e h = record { is = e .is ∙ ap (afterCheck j) h }
 
 -- a test as its function tells it
-pub by-test : {j k : Judged} {number : ℕ} {b d : Bool} → Next j (plain number b) k → b ≡ d → Next j (plain number d) k
+pub by-test : {j k : Judged} {number : ℕ} {b d : Bool} → CheckMade j (plain number b) k → b ≡ d → CheckMade j (plain number d) k
 by-test {number = number} e h = same-check e (ap (plain number) h)
 
-pub by-need : {j k : Judged} {number : ℕ} (b : Bool) {d : Bool} → Next j (plain number (opposite b)) k → b ≡ d
-    → Next j (plain number (opposite d)) k
+pub by-need : {j k : Judged} {number : ℕ} (b : Bool) {d : Bool} → CheckMade j (plain number (opposite b)) k → b ≡ d
+    → CheckMade j (plain number (opposite d)) k
 by-need {number = number} b e h = same-check e (ap (λ (x : Bool). plain number (opposite x)) h)
 
 -- a check that was made and did not fail
@@ -88,7 +88,7 @@ unfolding afterCheck
 held-by true j c e h = let k = rw e at h in cc
 held-by false j c e h = rw e at h
 
-pub held : {j k : Judged} {c : Check} → Next j c k → k .stopped ≡ false → c .fails ≡ false
+pub held : {j k : Judged} {c : Check} → CheckMade j c k → k .stopped ≡ false → c .fails ≡ false
 held {j} {c = c} e h = held-by (j .stopped) j c refl (sym (ap (λ (x : Judged). x .stopped) (e .is)) ∙ h)
 
 -- ── strings formed before a check are formed by it ──
@@ -106,7 +106,7 @@ join-by false n k fs c =
     omega (arith, cost-append fs (c .forms)) in
     λ i. record { stopped = c .fails; number = c .number; blocks = e i }
 
-pub joined : {i j k : Judged} {fs : List Str} {c : Check} → Formed i fs j → Next j c k → Next i (behind fs c) k
+pub joined : {i j k : Judged} {fs : List Str} {c : Check} → StringsFormed i fs j → CheckMade j c k → CheckMade i (behind fs c) k
 joined {i} {fs = fs} {c = c} e f =
     record { is = f .is ∙ ap (λ (x : Judged). afterCheck x c) (e .is) ∙ join-by (i .stopped) (i .number) (i .blocks) fs c }
 
@@ -120,7 +120,7 @@ both-by false n k fs gs =
     let e : ((k + cost fs) % 2 ^ 64 + cost gs) % 2 ^ 64 ≡ (k + cost (fs ++ gs)) % 2 ^ 64 = omega (arith, cost-append fs gs) in
     λ i. record { stopped = false; number = n; blocks = e i }
 
-pub both-formed : {i j k : Judged} {fs gs : List Str} → Formed i fs j → Formed j gs k → Formed i (fs ++ gs) k
+pub both-formed : {i j k : Judged} {fs gs : List Str} → StringsFormed i fs j → StringsFormed j gs k → StringsFormed i (fs ++ gs) k
 both-formed {i} {fs = fs} {gs} e f =
     record { is = f .is ∙ ap (λ (x : Judged). afterWork x (cost gs)) (e .is) ∙ both-by (i .stopped) (i .number) (i .blocks) fs gs }
 
@@ -142,7 +142,7 @@ with-digest j number m d =
 
 module _ {secret m : Dig} where
   pub compared-by : {i j k : Judged} {number : ℕ} {s : Says} {d : Digest} {b : Bool} → d ≡ madeOf s secret
-      → Worked i (d .blocks) j → b ≡ same (d .bytes) m → Next j (plain number (opposite b)) k → Compared i number s secret m k
+      → WorkAdded i (d .blocks) j → b ≡ same (d .bytes) m → CheckMade j (plain number (opposite b)) k → MemoCompared i number s secret m k
   unfolding comparing
   compared-by {i} {number = number} {d = d} e w t n =
       record {
@@ -152,7 +152,7 @@ module _ {secret m : Dig} where
             ∙ ap (with-digest i number m) e;
       }
 
-  module _ {j i : Judged} {s : Says} (going : j .stopped ≡ false) (first : Compared j 8 s secret m i) where
+  module _ {j i : Judged} {s : Says} (going : j .stopped ≡ false) (first : MemoCompared j 8 s secret m i) where
     as-first : (b : Bool) → i .stopped ≡ b → comparing j 8 s secret m .stopped ≡ b
     as-first b h = sym (ap (λ (x : Judged). x .stopped) (first .is)) ∙ h
 
@@ -160,12 +160,12 @@ module _ {secret m : Dig} where
     by-tests : (x i : Judged) (b : Bool) → i .stopped ≡ b → pick (j .stopped) j (pick (i .stopped) x i) ≡ pick b x i
     by-tests x i b h = ap₂ (λ (c d : Bool). pick c j (pick d x i)) going h
 
-    pub either-first : {t : Says} → i .stopped ≡ false → ComparedEither j s t secret m i
+    pub either-first : {t : Says} → i .stopped ≡ false → MemoComparedEither j s t secret m i
     unfolding comparingEither
     either-first h = record { is = first .is ∙ sym (by-tests _ _ false (as-first false h)) }
 
     pub either-second : {t : Says} {l : Judged} → i .stopped ≡ true
-        → Compared (record { stopped = false; number = 8; blocks = i .blocks }) 8 t secret m l → ComparedEither j s t secret m l
+        → MemoCompared (record { stopped = false; number = 8; blocks = i .blocks }) 8 t secret m l → MemoComparedEither j s t secret m l
     unfolding comparingEither
     either-second {t} h second =
         record {
@@ -176,7 +176,7 @@ module _ {secret m : Dig} where
         }
 
 pub issued-by : {r : Registers} {j k : Judged} {first : ℕ} {s : Says} {d : Digest} {o : Outcome} → j .stopped ≡ false
-    → d ≡ madeOf s (r .secret) → Worked j (d .blocks) k → o ≡ acceptance r first (d .bytes) (k .blocks) → Issued r j first s o
+    → d ≡ madeOf s (r .secret) → WorkAdded j (d .blocks) k → o ≡ acceptance r first (d .bytes) (k .blocks) → MemoIssued r j first s o
 unfolding issuing afterWork
 issued-by {r} {j} {first = first} {d = d} going e w o =
     let n : afterWork j (d .blocks) .blocks ≡ blocksMore j (d .blocks) = rw going refl in
@@ -262,24 +262,24 @@ module _ (secret m : Dig) where
         ∙ either-by (same (memorandum sha256 t secret) m) (j .stopped) (j .number) (j .blocks)
 
 module _ {secret m : Dig} where
-  pub fits-one : {j k : Judged} {number : ℕ} {s : Says} {t : Memo} → Compared j number s secret m k → Spoken s t
-      → Next j (memoCheck number secret (t ∷ []) m) k
+  pub fits-one : {j k : Judged} {number : ℕ} {s : Says} {t : Memo} → MemoCompared j number s secret m k → Spoken s t
+      → CheckMade j (memoCheck number secret (t ∷ []) m) k
   fits-one {j} {number = number} c p = record { is = c .is ∙ compared-as secret m j number p }
 
-  pub fits-either : {j k : Judged} {s s′ : Says} {t t′ : Memo} → ComparedEither j s s′ secret m k → Spoken s t → Spoken s′ t′
-      → Next j (memoCheck 8 secret (t ∷ t′ ∷ []) m) k
+  pub fits-either : {j k : Judged} {s s′ : Says} {t t′ : Memo} → MemoComparedEither j s s′ secret m k → Spoken s t → Spoken s′ t′
+      → CheckMade j (memoCheck 8 secret (t ∷ t′ ∷ []) m) k
   fits-either {j} {t = t} {t′} c p p′ = record { is = c .is ∙ either-as secret m t t′ j p p′ }
 
 -- ── the end ──
 
 module _ {s : Registers} {j : Judged} {first : ℕ} {after : Registers} {lists : List ℕ} {forms : List Str} where
   pub finished-stopped : j .stopped ≡ true → Finished s j first after lists forms (refusal s (j .number) (j .blocks))
-  unfolding ending
+  unfolding outcomeAtEnd
   finished-stopped e = record { is = rw e refl }
 
   pub finished-going : {k : ℕ} → j .stopped ≡ false → k ≡ blocksMore j (cost forms)
       → Finished s j first after lists forms (acceptance after first lists k)
-  unfolding ending
+  unfolding outcomeAtEnd
   finished-going e h = record { is = rw (e, h) refl }
 
   pub finished-as : {o p : Outcome} → p ≡ o → Finished s j first after lists forms o → Finished s j first after lists forms p
@@ -287,17 +287,17 @@ module _ {s : Registers} {j : Judged} {first : ℕ} {after : Registers} {lists :
 
   pub lists-as : {o : Outcome} {l : List ℕ} → Finished s j first after lists forms o → lists ≡ l
       → Finished s j first after l forms o
-  lists-as f e = record { is = f .is ∙ ap (λ (l : List ℕ). ending s j first after l forms) e }
+  lists-as f e = record { is = f .is ∙ ap (λ (l : List ℕ). outcomeAtEnd s j first after l forms) e }
 
   -- from an earlier check on
   pub ran-to : {o : Outcome} {i : Judged} {l : List Check} → Ran i l j → Finished s j first after lists forms o
       → Concludes s i l first after lists forms o
-  ran-to r f = record { is = record { is = f .is ∙ ap (λ (x : Judged). ending s x first after lists forms) (r .is) } }
+  ran-to r f = record { is = record { is = f .is ∙ ap (λ (x : Judged). outcomeAtEnd s x first after lists forms) (r .is) } }
 
 -- an answer that is a memorandum
-pub issues-it : {r : Registers} {j : Judged} {first : ℕ} {s : Says} {t : Memo} {o : Outcome} → Issued r j first s o → Spoken s t
+pub issues-it : {r : Registers} {j : Judged} {first : ℕ} {s : Says} {t : Memo} {o : Outcome} → MemoIssued r j first s o → Spoken s t
     → Finished r j first r (memorandum sha256 t (r .secret)) (memorandumForms sha256 t (r .secret)) o
-unfolding issuing ending
+unfolding issuing outcomeAtEnd
 issues-it {r} {j} {first} i p =
     record {
       is =
@@ -311,8 +311,8 @@ issues-it {r} {j} {first} i p =
 -- strings formed before the answer's are the answer's
 finish-by : (b : Bool) (n k : ℕ) (s : Registers) (first : ℕ) (after : Registers) (lists : List ℕ) (fs gs : List Str)
     → let j : Judged = record { stopped = b; number = n; blocks = k } in
-    ending s (afterWork j (cost fs)) first after lists gs ≡ ending s j first after lists (gs ++ fs)
-unfolding afterWork ending
+    outcomeAtEnd s (afterWork j (cost fs)) first after lists gs ≡ outcomeAtEnd s j first after lists (gs ++ fs)
+unfolding afterWork outcomeAtEnd
 finish-by true n k s first after lists fs gs = refl
 finish-by false n k s first after lists fs gs =
     let e : ((k + cost fs) % 2 ^ 64 + cost gs) % 2 ^ 64 ≡ (k + cost (gs ++ fs)) % 2 ^ 64 =
@@ -320,11 +320,11 @@ finish-by false n k s first after lists fs gs =
     ap (acceptance after first lists) e
 
 pub finish-joined : {i j : Judged} {s : Registers} {first : ℕ} {after : Registers} {lists : List ℕ} {fs gs : List Str} {o : Outcome}
-    → Formed i fs j → Finished s j first after lists gs o → Finished s i first after lists (gs ++ fs) o
+    → StringsFormed i fs j → Finished s j first after lists gs o → Finished s i first after lists (gs ++ fs) o
 finish-joined {i} {s = s} {first} {after} {lists} {fs} {gs} e f =
     record {
       is =
-          f .is ∙ ap (λ (x : Judged). ending s x first after lists gs) (e .is)
+          f .is ∙ ap (λ (x : Judged). outcomeAtEnd s x first after lists gs) (e .is)
           ∙ finish-by (i .stopped) (i .number) (i .blocks) s first after lists fs gs;
     }
 
@@ -332,8 +332,8 @@ finish-joined {i} {s = s} {first} {after} {lists} {fs} {gs} e f =
 
 -- the first check that fails refuses; strings are formed no further
 abbrev walk : List Check → List Str → Verdict
-walk [] fs = passed fs
-walk (c ∷ l) fs = pick (c .fails) (refused (c .number) (c .forms ++ fs)) (walk l (c .forms ++ fs))
+walk [] fs = allPassed fs
+walk (c ∷ l) fs = pick (c .fails) (refusedBy (c .number) (c .forms ++ fs)) (walk l (c .forms ++ fs))
 
 pick-either : (a b : Bool) (x y : Verdict) → pick (either a b) x y ≡ pick a x (pick b x y)
 pick-either true b x y = refl
@@ -360,15 +360,15 @@ walked s (Q.unlock k) = rw (either-no (s .opened), either-no (allZero k))
 
 module _ (s : Registers) (first : ℕ) (after : Registers) (lists : List ℕ) (forms : List Str) where
   abbrev ended : Verdict → Outcome
-  ended (refused n fs) = refusal s n (cost fs % 2 ^ 64)
-  ended (passed fs) = acceptance after first lists ((cost fs % 2 ^ 64 + cost forms) % 2 ^ 64)
+  ended (refusedBy n fs) = refusal s n (cost fs % 2 ^ 64)
+  ended (allPassed fs) = acceptance after first lists ((cost fs % 2 ^ 64 + cost forms) % 2 ^ 64)
 
   abbrev Ends : Judged → Verdict → Type 0
   Ends j v = Finished s j first after lists forms (ended v)
 
   ends-at : {j k : Judged} {o : Outcome} → Finished s k first after lists forms o → j ≡ k
       → Finished s j first after lists forms o
-  ends-at f e = record { is = f .is ∙ ap (λ (x : Judged). ending s x first after lists forms) (sym e) }
+  ends-at f e = record { is = f .is ∙ ap (λ (x : Judged). outcomeAtEnd s x first after lists forms) (sym e) }
 
   module _ (c : Check) (l : List Check) (fs : List Str) where
     abbrev after-it : Bool → Judged
@@ -377,7 +377,7 @@ module _ (s : Registers) (first : ℕ) (after : Registers) (lists : List ℕ) (f
     ends-by : (b : Bool)
         → ((k : Judged) → k .stopped ≡ false → k .blocks ≡ cost (c .forms ++ fs) % 2 ^ 64
         → Ends (afterChecks k l) (walk l (c .forms ++ fs)))
-        → Ends (afterChecks (after-it b) l) (pick b (refused (c .number) (c .forms ++ fs)) (walk l (c .forms ++ fs)))
+        → Ends (afterChecks (after-it b) l) (pick b (refusedBy (c .number) (c .forms ++ fs)) (walk l (c .forms ++ fs)))
     ends-by true others = ends-at (finished-stopped {j = after-it true} refl) (sym (still l (after-it true) refl .is))
     ends-by false others = others (after-it false) refl refl
 
@@ -390,12 +390,12 @@ module _ (s : Registers) (first : ℕ) (after : Registers) (lists : List ℕ) (f
       (ap (λ (x : Judged). afterChecks x l) (sym (going {c = c} e n .is)))
 
 module _ (s : Registers) (kind : ℕ) (q : Q.Request) where
-  settled : (v : Verdict) → cost (told sha256 s kind q v .formed) < 2 ^ 64 → length (answer sha256 s q .lists) ≤ 96
+  settled : (v : Verdict) → cost (toldBy sha256 s kind q v .formed) < 2 ^ 64 → length (answer sha256 s q .lists) ≤ 96
       → let a = answer sha256 s q in
-      ended s (0x80 + kind) (a .after) (a .lists) (a .forms) v ≡ outcomeOf (told sha256 s kind q v)
+      ended s (0x80 + kind) (a .after) (a .lists) (a .forms) v ≡ outcomeOf (toldBy sha256 s kind q v)
   unfolding putAt answerLength
-  settled (refused n fs) h room = let e : cost fs % 2 ^ 64 ≡ cost fs = omega (arith, h) in ap (refusal s n) e
-  settled (passed fs) h room =
+  settled (refusedBy n fs) h room = let e : cost fs % 2 ^ 64 ≡ cost fs = omega (arith, h) in ap (refusal s n) e
+  settled (allPassed fs) h room =
       let a = answer sha256 s q in
       let l : List ℕ = a .lists in
       let k : (cost fs % 2 ^ 64 + cost (a .forms)) % 2 ^ 64 ≡ cost (a .forms ++ fs) =
@@ -407,32 +407,32 @@ module _ (s : Registers) (kind : ℕ) (q : Q.Request) where
   pub concluded : {j : Judged} {o : Outcome} → Ran unjudged (needs sha256 s q) j
       → let a = answer sha256 s q in
       Finished s j (0x80 + kind) (a .after) (a .lists) (a .forms) o → ceiling q < 2 ^ 64 → length (a .lists) ≤ 96
-      → o ≡ outcome s kind q
-  unfolding outcome
+      → o ≡ outcomeFor s kind q
+  unfolding outcomeFor
   concluded e f few room =
       let a = answer sha256 s q in
       let v : Verdict = judge requestOrder [] (needs sha256 s q) in
-      let less : cost (told sha256 s kind q v .formed) < 2 ^ 64 = omega (arith, few, request-cost sha256 s kind q) in
-      f .is ∙ ap (λ (x : Judged). ending s x (0x80 + kind) (a .after) (a .lists) (a .forms)) (e .is)
+      let less : cost (toldBy sha256 s kind q v .formed) < 2 ^ 64 = omega (arith, few, request-cost sha256 s kind q) in
+      f .is ∙ ap (λ (x : Judged). outcomeAtEnd s x (0x80 + kind) (a .after) (a .lists) (a .forms)) (e .is)
       ∙ sym (ends s (0x80 + kind) (a .after) (a .lists) (a .forms) (needs sha256 s q) [] unjudged refl refl .is)
       ∙ ap (ended s (0x80 + kind) (a .after) (a .lists) (a .forms)) (sym (walked s q)) ∙ settled v less room
 
   -- one of whose checks one failed
   refused-by : (n b : ℕ) (v : Verdict) → refusal s n b ≡ ended s 0 s [] [] v
-      → cost (told sha256 s kind q v .formed) < 2 ^ 64 → refusal s n b ≡ outcomeOf (told sha256 s kind q v)
+      → cost (toldBy sha256 s kind q v .formed) < 2 ^ 64 → refusal s n b ≡ outcomeOf (toldBy sha256 s kind q v)
   unfolding answerLength
-  refused-by n b (refused m fs) e h = e ∙ ap (refusal s m) (omega (arith, h))
-  refused-by n b (passed fs) e h = let k : _≡_ {A = ℕ} 2 1 = ap (λ (o : Outcome). o .length) e in cc
+  refused-by n b (refusedBy m fs) e h = e ∙ ap (refusal s m) (omega (arith, h))
+  refused-by n b (allPassed fs) e h = let k : _≡_ {A = ℕ} 2 1 = ap (λ (o : Outcome). o .length) e in cc
 
   pub refused-as : {j : Judged} → Ran unjudged (needs sha256 s q) j → j .stopped ≡ true → ceiling q < 2 ^ 64
-      → refusal s (j .number) (j .blocks) ≡ outcome s kind q
-  unfolding outcome
+      → refusal s (j .number) (j .blocks) ≡ outcomeFor s kind q
+  unfolding outcomeFor
   refused-as {j} e h few =
       let v : Verdict = judge requestOrder [] (needs sha256 s q) in
-      let less : cost (told sha256 s kind q v .formed) < 2 ^ 64 = omega (arith, few, request-cost sha256 s kind q) in
+      let less : cost (toldBy sha256 s kind q v .formed) < 2 ^ 64 = omega (arith, few, request-cost sha256 s kind q) in
       let f : refusal s (j .number) (j .blocks) ≡ ended s 0 s [] [] v =
       finished-stopped {j = j} {first = 0} {after = s} {lists = []} {forms = []} h .is
-      ∙ ap (λ (x : Judged). ending s x 0 s [] []) (e .is) ∙ sym (ends s 0 s [] [] (needs sha256 s q) [] unjudged refl refl .is)
+      ∙ ap (λ (x : Judged). outcomeAtEnd s x 0 s [] []) (e .is) ∙ sym (ends s 0 s [] [] (needs sha256 s q) [] unjudged refl refl .is)
       ∙ ap (ended s 0 s [] []) (sym (walked s q)) in
       refused-by (j .number) (j .blocks) v f less
 
@@ -440,8 +440,8 @@ module _ (s : Registers) (kind : ℕ) (q : Q.Request) where
 pub answered : (s : Registers) (kind : ℕ) (f : List ℕ) {q : Q.Request} {j : Judged} {o : Outcome} → q ≡ requestAt kind f
     → Ran unjudged (needs sha256 s q) j
     → let a = answer sha256 s q in
-    Finished s j (0x80 + kind) (a .after) (a .lists) (a .forms) o → ceiling q < 2 ^ 64 → o ≡ outcome s kind (requestAt kind f)
+    Finished s j (0x80 + kind) (a .after) (a .lists) (a .forms) o → ceiling q < 2 ^ 64 → o ≡ outcomeFor s kind (requestAt kind f)
 answered s kind f {q} e r g few =
     let room : length (answer sha256 s q .lists) ≤ 96 =
     subst (λ (p : Q.Request). length (answer sha256 s p .lists) ≤ 96) (sym e) (answer-short f kind s) in
-    concluded s kind q r g few room ∙ ap (outcome s kind) e
+    concluded s kind q r g few room ∙ ap (outcomeFor s kind) e

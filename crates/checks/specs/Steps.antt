@@ -30,17 +30,17 @@ blocksMore j n = (j .blocks + n) % 2 ^ 64
 unfoldable pub afterCheck : Judged → Check → Judged
 afterCheck j c = pick (j .stopped) j (record { stopped = c .fails; number = c .number; blocks = blocksMore j (cost (c .forms)) })
 
-pub record Next (j : Judged) (c : Check) (k : Judged) : Type 0 where
+pub record CheckMade (j : Judged) (c : Check) (k : Judged) : Type 0 where
   pub is : k ≡ afterCheck j c
 
 -- blocks worked, unless a check failed: as many as some strings cost
 unfoldable pub afterWork : Judged → ℕ → Judged
 afterWork j n = pick (j .stopped) j (record { stopped = false; number = j .number; blocks = blocksMore j n })
 
-pub record Worked (j : Judged) (n : ℕ) (k : Judged) : Type 0 where
+pub record WorkAdded (j : Judged) (n : ℕ) (k : Judged) : Type 0 where
   pub is : k ≡ afterWork j n
 
-pub record Formed (j : Judged) (fs : List Str) (k : Judged) : Type 0 where
+pub record StringsFormed (j : Judged) (fs : List Str) (k : Judged) : Type 0 where
   pub is : k ≡ afterWork j (cost fs)
 
 -- ── some steps ──
@@ -55,12 +55,12 @@ pub record Ran (j : Judged) (l : List Check) (k : Judged) : Type 0 where
 -- ── the end ──
 
 -- the refusal of the check that failed, or an answer
-unfoldable pub ending : Registers → Judged → (first : ℕ) (after : Registers) (lists : List ℕ) (forms : List Str) → Outcome
-ending s j first after lists forms =
+unfoldable pub outcomeAtEnd : Registers → Judged → (first : ℕ) (after : Registers) (lists : List ℕ) (forms : List Str) → Outcome
+outcomeAtEnd s j first after lists forms =
     pick (j .stopped) (refusal s (j .number) (j .blocks)) (acceptance after first lists (blocksMore j (cost forms)))
 
 pub record Finished (s : Registers) (j : Judged) (first : ℕ) (after : Registers) (lists : List ℕ) (forms : List Str) (o : Outcome) : Type 0 where
-  pub is : o ≡ ending s j first after lists forms
+  pub is : o ≡ outcomeAtEnd s j first after lists forms
 
 -- some checks, then the end
 pub record Concludes (s : Registers) (j : Judged) (l : List Check) (first : ℕ) (after : Registers) (lists : List ℕ) (forms : List Str) (o : Outcome) : Type 0 where
@@ -80,7 +80,7 @@ comparing j number s k m =
     pick (j .stopped) j
     (record { stopped = opposite (same (madeOf s k .bytes) m); number = number; blocks = blocksMore j (madeOf s k .blocks) })
 
-pub record Compared (j : Judged) (number : ℕ) (s : Says) (secret m : Dig) (k : Judged) : Type 0 where
+pub record MemoCompared (j : Judged) (number : ℕ) (s : Says) (secret m : Dig) (k : Judged) : Type 0 where
   pub is : k ≡ comparing j number s secret m
 
 unfoldable pub comparingEither : Judged → Says → Says → (secret m : Dig) → Judged
@@ -89,7 +89,7 @@ comparingEither j s t k m =
     let resumed : Judged = record { stopped = false; number = 8; blocks = i .blocks } in
     pick (j .stopped) j (pick (i .stopped) (comparing resumed 8 t k m) i)
 
-pub record ComparedEither (j : Judged) (s t : Says) (secret m : Dig) (k : Judged) : Type 0 where
+pub record MemoComparedEither (j : Judged) (s t : Says) (secret m : Dig) (k : Judged) : Type 0 where
   pub is : k ≡ comparingEither j s t secret m
 
 unfoldable pub issuing : Registers → Judged → (first : ℕ) → Says → Outcome
@@ -97,5 +97,5 @@ issuing r j first s =
     let d = madeOf s (r .secret) in
     pick (j .stopped) (refusal r (j .number) (j .blocks)) (acceptance r first (d .bytes) (blocksMore j (d .blocks)))
 
-pub record Issued (r : Registers) (j : Judged) (first : ℕ) (s : Says) (o : Outcome) : Type 0 where
+pub record MemoIssued (r : Registers) (j : Judged) (first : ℕ) (s : Says) (o : Outcome) : Type 0 where
   pub is : o ≡ issuing r j first s

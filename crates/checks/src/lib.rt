@@ -9,7 +9,7 @@ ghost use mathlib.Core.List.{[]};
 ghost use Rattle.seqs.specs.Choose.{opposite};
 ghost use Rattle.seqs.specs.Bytes.{same};
 ghost use Rattle.paper.specs.Refusals.{plain, isOpen};
-ghost use Rattle.checks.specs.Steps.{unjudged, Next, Worked, Finished, Compared, ComparedEither, Issued};
+ghost use Rattle.checks.specs.Steps.{unjudged, CheckMade, WorkAdded, Finished, MemoCompared, MemoComparedEither, MemoIssued};
 
 // Whether a check failed, the number of the last check that was made, and the blocks worked so far. They are counted modulo
 // 2^64: no request comes near that, and so no sum here asks anything of its caller.
@@ -32,7 +32,7 @@ pub fn begin() -> Judged
 
 // A check that forms no string, made unless one before it failed.
 pub fn refuse_if(j: Judged, number: u8, fails: bool) -> Judged
-    ensures { λ k. ⌜ Next j (plain number fails) k ⌝ }
+    ensures { λ k. ⌜ CheckMade j (plain number fails) k ⌝ }
 {
     if j.stopped {
         return j;
@@ -45,7 +45,7 @@ pub fn refuse_if(j: Judged, number: u8, fails: bool) -> Judged
 }
 
 pub fn refuse_unless(j: Judged, number: u8, holds: bool) -> Judged
-    ensures { λ k. ⌜ Next j (plain number (opposite holds)) k ⌝ }
+    ensures { λ k. ⌜ CheckMade j (plain number (opposite holds)) k ⌝ }
 {
     if holds {
         return refuse_if(j, number, false);
@@ -55,7 +55,7 @@ pub fn refuse_unless(j: Judged, number: u8, holds: bool) -> Judged
 
 // 13, the first check of every kind but open.
 pub fn begin_open(r: Registers) -> Judged
-    ensures { λ j. ⌜ Next unjudged (isOpen r) j ⌝ }
+    ensures { λ j. ⌜ CheckMade unjudged (isOpen r) j ⌝ }
 {
     let j = begin();
     refuse_unless(j, 13, r.opened)
@@ -63,14 +63,14 @@ pub fn begin_open(r: Registers) -> Judged
 
 // 10: y is not the root that the module holds.
 pub fn refuse_stale(j: Judged, y: [u8; 32], root: [u8; 32]) -> Judged
-    ensures { λ k. ⌜ Next j (plain 10 (opposite (same y root))) k ⌝ }
+    ensures { λ k. ⌜ CheckMade j (plain 10 (opposite (same y root))) k ⌝ }
 {
     refuse_unless(j, 10, fields::same_digest(y, root))
 }
 
 // Blocks worked for the check that follows, or for the answer.
 pub fn work(j: Judged, blocks: u64) -> Judged
-    ensures { λ k. ⌜ Worked j blocks k ⌝ }
+    ensures { λ k. ⌜ WorkAdded j blocks k ⌝ }
 {
     if j.stopped {
         return j;
@@ -84,7 +84,7 @@ pub fn work(j: Judged, blocks: u64) -> Judged
 
 // 8 or 9: m is not the memorandum of what is said.
 pub fn compare(j: Judged, number: u8, s: Says, secret: [u8; 32], m: [u8; 32]) -> Judged
-    ensures { λ k. ⌜ Compared j number s secret m k ⌝ }
+    ensures { λ k. ⌜ MemoCompared j number s secret m k ⌝ }
 {
     if j.stopped {
         return j;
@@ -97,7 +97,7 @@ pub fn compare(j: Judged, number: u8, s: Says, secret: [u8; 32], m: [u8; 32]) ->
 
 // 8 of a memorandum that may say one of two things: the second is tried where the first does not fit.
 pub fn compare_either(j: Judged, s: Says, t: Says, secret: [u8; 32], m: [u8; 32]) -> Judged
-    ensures { λ k. ⌜ ComparedEither j s t secret m k ⌝ }
+    ensures { λ k. ⌜ MemoComparedEither j s t secret m k ⌝ }
 {
     if j.stopped {
         return j;
@@ -126,7 +126,7 @@ pub fn finish(r: Registers, j: Judged, first: u8, after: Registers, lists: &[u8]
 
 // Refused by the check that failed, or answered with the memorandum of what is said; the registers stay as they are.
 pub fn issue(r: Registers, j: Judged, first: u8, s: Says) -> Outcome
-    ensures { λ o. ⌜ Issued r j first s o ⌝ }
+    ensures { λ o. ⌜ MemoIssued r j first s o ⌝ }
 {
     if j.stopped {
         return replies::refuse(r, j.number, j.blocks);

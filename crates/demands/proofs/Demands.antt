@@ -30,7 +30,7 @@ use Rattle.runs.proofs.Live.{liveness}
 use Rattle.runs.proofs.Also.{also}
 use Rattle.session.specs.Replies.{toldOf, registersBehind}
 use Rattle.session.proofs.Whole.{registers-append}
-use Rattle.demands.specs.Demands.{Call, standing, Kept, turnsOfCalls, OneReply, AsDefined, RepliedAlong, Holds, ByValue, InPlace, MeetsByValue, MeetsInPlace, Input, callsByValue, callsInPlace, spaced, inOrder, Demands}
+use Rattle.demands.specs.Demands.{Call, registersBehindCalls, Kept, turnsOfCalls, OneReply, AsDefined, RepliedAlong, Holds, ByValue, InPlace, MeetsByValue, MeetsInPlace, Input, callsByValue, callsInPlace, withReplyRoom, inOrder, Demands}
 
 -- ── one call ──
 
@@ -72,7 +72,7 @@ as-said-meets s line space = record { returned = refl; left = refl }
 
 -- ── calls one after the other ──
 
-along : (k : Dig) (cs : List Call) → Kept k cs → standing k cs ≡ after sha256 k (turnsOfCalls cs) .registers
+along : (k : Dig) (cs : List Call) → Kept k cs → registersBehindCalls k cs ≡ after sha256 k (turnsOfCalls cs) .registers
 along k [] h = refl
 along k (c ∷ cs) h =
     ap (λ (x : Answered). x .registers) (h .0 .returned)
@@ -101,13 +101,13 @@ holds k cs h =
 
 kept-by-value : (m : ByValue) → MeetsByValue m → (k : Dig) (is : List Input) → Kept k (callsByValue m k is)
 kept-by-value m h k [] = tt
-kept-by-value m h k (i ∷ is) = (h (standing k (callsByValue m k is)) (i .line) (i .space), kept-by-value m h k is)
+kept-by-value m h k (i ∷ is) = (h (registersBehindCalls k (callsByValue m k is)) (i .line) (i .space), kept-by-value m h k is)
 
 kept-in-place : (m : InPlace) → MeetsInPlace m → (k : Dig) (is : List Input) → Kept k (callsInPlace m k is)
 kept-in-place m h k [] = tt
-kept-in-place m h k (i ∷ is) = (h (standing k (callsInPlace m k is)) (i .line) (i .space), kept-in-place m h k is)
+kept-in-place m h k (i ∷ is) = (h (registersBehindCalls k (callsInPlace m k is)) (i .line) (i .space), kept-in-place m h k is)
 
-in-session : (k : Dig) (ls : List (List ℕ)) → registersBehind (unopened k) (inOrder ls) ≡ after sha256 k (spaced ls) .registers
+in-session : (k : Dig) (ls : List (List ℕ)) → registersBehind (unopened k) (inOrder ls) ≡ after sha256 k (withReplyRoom ls) .registers
 in-session k [] = refl
 in-session k (l ∷ ls) =
     registers-append (unopened k) (inOrder ls) (l ∷ [])

@@ -36,14 +36,14 @@ pub record Call : Type 0 where
   pub left : List ℕ
 
 -- the registers behind some calls on a module that nobody had opened, the latest call first
-abbrev pub standing : (secret : Dig) → List Call → Registers
-standing k [] = unopened k
-standing k (c ∷ cs) = c .came .registers
+abbrev pub registersBehindCalls : (secret : Dig) → List Call → Registers
+registersBehindCalls k [] = unopened k
+registersBehindCalls k (c ∷ cs) = c .came .registers
 
 -- each call was given the registers that the one before it left, and meets the contract
 abbrev pub Kept : (secret : Dig) → List Call → Type 0
 Kept k [] = Unit {0}
-Kept k (c ∷ cs) = Promised (standing k cs) (c .line) (c .space) (c .came) (c .left) × Kept k cs
+Kept k (c ∷ cs) = Promised (registersBehindCalls k cs) (c .line) (c .space) (c .came) (c .left) × Kept k cs
 
 -- the lines of some calls, each with the length of its space
 abbrev pub turnsOfCalls : List Call → List LineTurn
@@ -59,7 +59,7 @@ OneReply = (s : Registers) (line space after : List ℕ) (o : Answered) → Prom
     → ((o .refused ≡ 15) × (length space < replyRoom) × (after ≡ space))
     ⊎ ((says : List ℕ) × (after ≡ lineOf says ++ drop (o .length) space) × (o .length ≡ length (lineOf says)))
 
-pub record First : Type 0 where
+pub record FirstDemand : Type 0 where
   pub one-reply : OneReply
   -- "Each refusal is one of the fifteen .. given exactly when its condition is the first to apply"
   pub first-to-apply : RefusalIsFirst
@@ -82,7 +82,7 @@ AsDefined = (s : Registers) (line space after : List ℕ) (o : Answered) → Pro
     → (let t = answerTo sha256 s line (length space) in
     (o .registers ≡ t .after) × (after ≡ replyLine t ++ drop (length (replyLine t)) space) × (o .blocks ≡ cost (t .formed)))
 
-pub record Second : Type 0 where
+pub record SecondDemand : Type 0 where
   pub as-defined : AsDefined
   pub under-the-ceiling : UnderTheCeiling
   pub older-memorandum : OlderMemorandum
@@ -103,12 +103,12 @@ RepliedAlong k (c ∷ cs) =
 -- "Start from an unopened module and feed any lines. After each ..", until something one can show
 pub record Holds (k : Dig) (cs : List Call) : Type 0 where
   -- the registers are those of the run of these lines, and so are the replies
-  pub registers : standing k cs ≡ after sha256 k (turnsOfCalls cs) .registers
+  pub registers : registersBehindCalls k cs ≡ after sha256 k (turnsOfCalls cs) .registers
   pub replies : RepliedAlong k cs
   -- the root is that of a tree that holds just the replayed list, the counter counts, every answer was true and every change legal
   pub safe : Ending sha256 k (turnsOfCalls cs) ⊎ Safe sha256 k (turnsOfCalls cs)
   -- "once open and while the counter is below its top", every legal change and every question has honest lines
-  pub live : standing k cs .opened ≡ true → standing k cs .counter .0 < top
+  pub live : registersBehindCalls k cs .opened ≡ true → registersBehindCalls k cs .counter .0 < top
       → Ending sha256 k (turnsOfCalls cs) ⊎ Live sha256 (after sha256 k (turnsOfCalls cs))
 
 -- a function on registers by value, and one on registers where they lie, which leaves registers beside what it returns; each leaves
@@ -139,7 +139,7 @@ callByValue m s i =
 
 abbrev pub callsByValue : ByValue → (secret : Dig) → List Input → List Call
 callsByValue m k [] = []
-callsByValue m k (i ∷ is) = callByValue m (standing k (callsByValue m k is)) i ∷ callsByValue m k is
+callsByValue m k (i ∷ is) = callByValue m (registersBehindCalls k (callsByValue m k is)) i ∷ callsByValue m k is
 
 abbrev pub callInPlace : InPlace → Registers → Input → Call
 callInPlace m s i =
@@ -148,18 +148,18 @@ callInPlace m s i =
 
 abbrev pub callsInPlace : InPlace → (secret : Dig) → List Input → List Call
 callsInPlace m k [] = []
-callsInPlace m k (i ∷ is) = callInPlace m (standing k (callsInPlace m k is)) i ∷ callsInPlace m k is
+callsInPlace m k (i ∷ is) = callInPlace m (registersBehindCalls k (callsInPlace m k is)) i ∷ callsInPlace m k is
 
 -- lines as a session feeds them, the latest first, each with room for its reply
-abbrev pub spaced : List (List ℕ) → List LineTurn
-spaced [] = []
-spaced (l ∷ ls) = record { line = l; space = replyRoom } ∷ spaced ls
+abbrev pub withReplyRoom : List (List ℕ) → List LineTurn
+withReplyRoom [] = []
+withReplyRoom (l ∷ ls) = record { line = l; space = replyRoom } ∷ withReplyRoom ls
 
 abbrev pub inOrder : List (List ℕ) → List (List ℕ)
 inOrder [] = []
 inOrder (l ∷ ls) = inOrder ls ++ (l ∷ [])
 
-pub record Third : Type 0 where
+pub record ThirdDemand : Type 0 where
   -- there is a function that meets the contract, so what follows is of something
   pub some-function : (m : ByValue) × MeetsByValue m
   -- any calls that each meet the contract
@@ -172,10 +172,10 @@ pub record Third : Type 0 where
   -- honest lines from any registers, tree and list that stand, with no run before them
   pub anywhere : AllGrantable sha256
   -- and the registers along a session's lines (`session::serve`) are a run's
-  pub in-session : (k : Dig) (ls : List (List ℕ)) → registersBehind (unopened k) (inOrder ls) ≡ after sha256 k (spaced ls) .registers
+  pub in-session : (k : Dig) (ls : List (List ℕ)) → registersBehind (unopened k) (inOrder ls) ≡ after sha256 k (withReplyRoom ls) .registers
 
 -- ── all three ──
 pub record Demands : Type 0 where
-  pub demand-1 : First
-  pub demand-2 : Second
-  pub demand-3 : Third
+  pub demand-1 : FirstDemand
+  pub demand-2 : SecondDemand
+  pub demand-3 : ThirdDemand

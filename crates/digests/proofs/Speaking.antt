@@ -10,7 +10,7 @@ use lib.Seq.{take-at, take-suc}
 use Rattle.seqs.specs.Over.{putAt, Front, front-next}
 use Rattle.sha256.specs.Hash.{sha256}
 use Rattle.sha256.specs.Padding.{blocks}
-use Rattle.paper.specs.Strings.{Dig, Memo, memo, memoTag, memoDigests, digs, spread, widths, enc, lengthOf, cost}
+use Rattle.paper.specs.Strings.{Dig, Memo, memoString, memoTag, memoDigests, digs, spread, widths, enc, lengthOf, cost}
 use Rattle.digests.specs.declared.Says.{Says}
 use Rattle.digests.specs.Worked.{hashed}
 use Rattle.digests.specs.Speaking.{AllWhole, Spoken, madeOf, OneSaying}
@@ -48,13 +48,13 @@ made-bytes s k {b} size room few e =
     ap (take (n + 32)) (whole .here) ∙ take-at (take n (s .bytes) ++ k) _ (n + 32) (whole .long)
 
 -- what a memorandum says, with the secret behind it, is its string
-pub made-of : {s : Says} {t : Memo} → Spoken s t → (k : Dig) → madeOf s k ≡ hashed (memo t k)
+pub made-of : {s : Says} {t : Memo} → Spoken s t → (k : Dig) → madeOf s k ≡ hashed (memoString t k)
 unfolding madeOf enc
 made-of {s} {t} p k =
     let l : List Dig = memoDigests t in
     let long : length (l ++ (k ∷ [])) ≡ length l + 1 = length-append l (k ∷ []) in
-    let size : s .length + 32 ≡ lengthOf (memo t k) = omega (arith, p .is .long, digests-width (l ++ (k ∷ [])), long) in
-    let count : blocks (lengthOf (memo t k)) ≡ cost (memo t k ∷ []) = omega arith in
+    let size : s .length + 32 ≡ lengthOf (memoString t k) = omega (arith, p .is .long, digests-width (l ++ (k ∷ [])), long) in
+    let count : blocks (lengthOf (memoString t k)) ≡ cost (memoString t k ∷ []) = omega arith in
     let bytes = ap (λ (m : List ℕ). m ++ k) (p .is .here) ∙ ap (λ (m : List ℕ). memoTag t ∷ m) (sym (spread-next l k)) in
     let each = ap blocks size ∙ count in
     λ i. record { bytes = sha256 (bytes i); blocks = each i }

@@ -146,7 +146,7 @@ pub fn record_hash(r: Record) -> Digest
 
 // The leaf of a and b with a record, and all that is formed for it.
 pub fn leaf_of(a: Item, b: Item, rec: Record) -> Digest
-    ensures { λ d. ⌜ d ≡ worked (S.digest sha256 (leafOf sha256 (a .0) (b .0) rec)) (leafForms sha256 (a .0) (b .0) rec) ⌝ }
+    ensures { λ d. ⌜ d ≡ worked (S.digestOf sha256 (leafOf sha256 (a .0) (b .0) rec)) (leafForms sha256 (a .0) (b .0) rec) ⌝ }
 {
     let h = record_hash(rec);
     let hash = h.bytes;

@@ -14,9 +14,9 @@ ghost use lib.ListN.{take};
 ghost use Rattle.sha256.specs.Hash.{sha256};
 ghost use Rattle.paper.specs.Requests.{digestsIn};
 ghost use Rattle.paper.specs.Module.{answerFrame};
-ghost use Rattle.replies.specs.Outcomes.{outcomeOf, outcome};
+ghost use Rattle.replies.specs.Outcomes.{outcomeOf, outcomeFor};
 ghost use Rattle.places.specs.Places.{bytesAt};
-ghost use Rattle.kernel.specs.Fitting.{levelsIn, pathIn, answerFitting};
+ghost use Rattle.kernel.specs.Fitting.{levelsIn, pathRequestIn, answerFitting};
 
 // The n siblings of a path over the front of the array.
 fn siblings(f: &[u8], n: usize) -> [[u8; 32]; MOST_SIBLINGS]
@@ -43,7 +43,7 @@ fn levels(f: &[u8]) -> usize
 
 // A path's frame: its siblings go by value.
 fn path(r: Registers, f: &[u8]) -> Outcome
-    ensures { λ o. ⌜ o ≡ outcome r 1 (pathIn (now (f .entry))) ⌝ }
+    ensures { λ o. ⌜ o ≡ outcomeFor r 1 (pathRequestIn (now (f .entry))) ⌝ }
 {
     let n = levels(f);
     let s = siblings(f, n);

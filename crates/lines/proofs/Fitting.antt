@@ -13,7 +13,7 @@ use Rattle.seqs.specs.Choose.{pick, both-true, either, opposite}
 use Rattle.seqs.specs.Bytes.{numberAt, number-at}
 use Rattle.hex.specs.Hex.{bytesOf}
 use Rattle.paper.specs.Requests.{kinds, kindOf, known, fits}
-use Rattle.paper.specs.Refusals.{isHex, refused, passed, judge, beforeSiblings}
+use Rattle.paper.specs.Refusals.{isHex, refusedBy, allPassed, judge, beforeSiblings}
 use Rattle.paper.specs.Module.{refusalOf, frameChecks, isWritable, readRefusal, writeRefusal}
 use Rattle.paper.proofs.Frames as F
 use Rattle.lines.specs.Work.{lengths, fitting, refusalBy}
@@ -26,9 +26,9 @@ firstOf a b c d = pick a 1 (pick b 2 (pick c 3 (pick d 15 0)))
 
 by-tests : (a b c d : Bool)
     → refusalOf
-    (pick (either a false) (refused 1 [])
-    (pick (either b false) (refused 2 [])
-    (pick (either c false) (refused 3 []) (pick (either d false) (refused 15 []) (passed [])))))
+    (pick (either a false) (refusedBy 1 [])
+    (pick (either b false) (refusedBy 2 [])
+    (pick (either c false) (refusedBy 3 []) (pick (either d false) (refusedBy 15 []) (allPassed [])))))
     ≡ firstOf a b c d
 by-tests true b c d = refl
 by-tests false true c d = refl
@@ -53,7 +53,7 @@ abbrev pub own : List ℕ → ℕ
 own f = refusalOf (judge (2 ∷ 3 ∷ []) [] (frameChecks f))
 
 frame-tests : (b c : Bool)
-    → refusalOf (pick (either b false) (refused 2 []) (pick (either c false) (refused 3 []) (passed []))) ≡ pick b 2 (pick c 3 0)
+    → refusalOf (pick (either b false) (refusedBy 2 []) (pick (either c false) (refusedBy 3 []) (allPassed []))) ≡ pick b 2 (pick c 3 0)
 frame-tests true c = refl
 frame-tests false true = refl
 frame-tests false false = refl

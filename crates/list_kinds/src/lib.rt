@@ -33,14 +33,14 @@ ghost use mathlib.Core.List.{[], _++_};
 ghost use Prim.Native.Nat.{_+_};
 ghost use Rattle.seqs.specs.Bytes.{be64};
 ghost use Rattle.paper.specs.Answers.{raised};
-ghost use Rattle.replies.specs.Outcomes.{outcome};
+ghost use Rattle.replies.specs.Outcomes.{outcomeFor};
 ghost use Rattle.checks.specs.Steps.{unjudged, Ran, Concludes};
 ghost use Rattle.places.specs.Places.{digestIn, requestAt};
 ghost use Rattle.list_kinds.specs.Changes.{recordAfter, changeBegins, changeEnds};
 
 // 10 open: hands in the secret, once.
 pub fn unlock(r: Registers, f: &[u8]) -> Outcome
-    ensures { λ o. ⌜ o ≡ outcome r 16 (requestAt 16 (now (f .entry))) ⌝ }
+    ensures { λ o. ⌜ o ≡ outcomeFor r 16 (requestAt 16 (now (f .entry))) ⌝ }
 {
     let secret = digest(f, FIELDS, 0);
     let i = refuse_if(begin(), 14, r.opened);
@@ -54,7 +54,7 @@ pub fn unlock(r: Registers, f: &[u8]) -> Outcome
 
 // 0b adopt: y, next, m; m is EI(y,next) and y is the root; the root becomes next.
 pub fn adopt(r: Registers, f: &[u8]) -> Outcome
-    ensures { λ o. ⌜ o ≡ outcome r 11 (requestAt 11 (now (f .entry))) ⌝ }
+    ensures { λ o. ⌜ o ≡ outcomeFor r 11 (requestAt 11 (now (f .entry))) ⌝ }
 {
     let y = digest(f, FIELDS, 0);
     let next = digest(f, FIELDS, 1);
@@ -164,7 +164,7 @@ const SET_DIGESTS: u16 = SET_VALUES + VALUES;
 
 // 0c set: A, A', old record, v2, v3, v4, y, y', m; the record becomes [c+1, v2, v3, v4].
 pub fn set_record(r: Registers, f: &[u8]) -> Outcome
-    ensures { λ o. ⌜ o ≡ outcome r 12 (requestAt 12 (now (f .entry))) ⌝ }
+    ensures { λ o. ⌜ o ≡ outcomeFor r 12 (requestAt 12 (now (f .entry))) ⌝ }
 {
     let j = begin_change(r, f);
     let v = values_at(f, SET_VALUES);
@@ -175,7 +175,7 @@ const CLEAR_DIGESTS: u16 = OLD + RECORD;
 
 // 0d clear: A, A', old record, y, y', m; the record, which is not empty, becomes so.
 pub fn clear_record(r: Registers, f: &[u8]) -> Outcome
-    ensures { λ o. ⌜ o ≡ outcome r 13 (requestAt 13 (now (f .entry))) ⌝ }
+    ensures { λ o. ⌜ o ≡ outcomeFor r 13 (requestAt 13 (now (f .entry))) ⌝ }
 {
     let i = begin_change(r, f);
     let j = refuse_if(i, 11, records::is_blank(record_at(f, OLD)));

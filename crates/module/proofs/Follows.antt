@@ -16,11 +16,11 @@ use Rattle.hex.proofs.Laws.{bytes-of-digits, digits-all, digits-length}
 use Rattle.paper.specs.declared.Registers.{Registers}
 use Rattle.paper.specs.Requests as Q
 use Rattle.paper.specs.Requests.{kinds, known, fits, kindOf, requestOf}
-use Rattle.paper.specs.Refusals.{Check, order, replyRoom, isHex, Verdict, refused, passed, judge, Passed, FirstToApply}
-use Rattle.paper.specs.Module.{Told, told, answerFrame, checksOf, answerTo, replyLine}
+use Rattle.paper.specs.Refusals.{Check, order, replyRoom, isHex, Verdict, refusedBy, allPassed, judge, Passed, FirstToApply}
+use Rattle.paper.specs.Module.{Told, toldBy, answerFrame, checksOf, answerTo, replyLine}
 use Rattle.paper.specs.Strings.{Dig, cost}
 use Rattle.paper.proofs.Verdicts.{firstOf, number-is, first-given, first-only, passed-none}
-use Rattle.paper.specs.ByHand.{Room}
+use Rattle.paper.specs.ByHand.{SpaceOf195}
 use Rattle.paper.proofs.Room.{room}
 use Rattle.paper.proofs.Ceilings.{ceilings}
 use Rattle.paper.proofs.Older.{older-gets-8}
@@ -34,10 +34,10 @@ use Rattle.module.specs.Laws.{RefusalKeeps, RefusalIsFirst, OnlyTheReply
 abbrev repliedOf : Answered → Replied
 repliedOf x = record { refused = x .refused; length = x .length; blocks = x .blocks }
 
-kept : (s : Registers) (k : ℕ) (q : Q.Request) (v : Verdict) → (told sha256 s k q v .refusal ≡ 0 → ⊥)
-    → told sha256 s k q v .after ≡ s
-kept s k q (refused n fs) h = refl
-kept s k q (passed fs) h = absurd (h refl)
+kept : (s : Registers) (k : ℕ) (q : Q.Request) (v : Verdict) → (toldBy sha256 s k q v .refusal ≡ 0 → ⊥)
+    → toldBy sha256 s k q v .after ≡ s
+kept s k q (refusedBy n fs) h = refl
+kept s k q (allPassed fs) h = absurd (h refl)
 
 kept-line : (s : Registers) (line : List ℕ) (space : ℕ) → (answerTo sha256 s line space .refusal ≡ 0 → ⊥)
     → answerTo sha256 s line space .after ≡ s
@@ -85,7 +85,7 @@ reply-fits s line space after o p = by-room (decLe replyRoom (length space))
     t : Told
     t = answerTo sha256 s line (length space)
 
-    r : Room sha256 s line
+    r : SpaceOf195 sha256 s line
     r = room sha256 sha256-length s line
 
     nothing : t .refusal ≡ 15 → length (replyLine t) ≡ 0
@@ -150,19 +150,19 @@ module _ (k : Dig) (n : length k ≡ 32) (bs : Bytes k) (z : allZero k ≡ false
   unfolding requestOf kinds
   is-request = ap Q.unlock (take-all 32 k (omega arith))
 
-  framed : (s : Registers) → s .opened ≡ false → answerFrame sha256 s frame ≡ told sha256 s 0x10 (Q.unlock k) (passed [])
+  framed : (s : Registers) → s .opened ≡ false → answerFrame sha256 s frame ≡ toldBy sha256 s 0x10 (Q.unlock k) (allPassed [])
   unfolding answerFrame known kinds
   framed s h = rw (is-frame, is-request, z, h) refl
 
   accepted : (s : Registers) (space : ℕ) → s .opened ≡ false → replyRoom ≤ space
-      → answerTo sha256 s (digitsOf frame) space ≡ told sha256 s 0x10 (Q.unlock k) (passed [])
+      → answerTo sha256 s (digitsOf frame) space ≡ toldBy sha256 s 0x10 (Q.unlock k) (allPassed [])
   accepted s space h r =
       with-room s (digitsOf frame) space r ∙ is-hex s (digitsOf frame) is-line ∙ ap (answerFrame sha256 s) frame-bytes
       ∙ framed s h
 
 pub opens : Opens
 opens s k space after o h n bs z r p =
-    let e : o ≡ answeredOf (told sha256 s 0x10 (Q.unlock k) (passed [])) =
+    let e : o ≡ answeredOf (toldBy sha256 s 0x10 (Q.unlock k) (allPassed [])) =
     p .returned ∙ ap answeredOf (accepted k n bs z s (length space) h r) in
     (ap (λ (x : Answered). x .refused) e, ap (λ (x : Answered). x .registers) e)
 

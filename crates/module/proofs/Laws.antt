@@ -18,8 +18,8 @@ use Rattle.hex.specs.Hex.{bytesOf, lineOf}
 use Rattle.hex.proofs.Laws.{bytes-length, line-length}
 use Rattle.paper.specs.declared.Registers.{Registers}
 use Rattle.paper.specs.Requests.{kindOf, requestOf}
-use Rattle.paper.specs.Refusals.{isHex, Verdict, refused, judge, longestFrame, longestLine, replyRoom}
-use Rattle.paper.specs.Module.{refusalOf, frameChecks, readRefusal, Told, told, answerFrame, answerTo, replyLine, spaceAfter}
+use Rattle.paper.specs.Refusals.{isHex, Verdict, refusedBy, judge, longestFrame, longestLine, replyRoom}
+use Rattle.paper.specs.Module.{refusalOf, frameChecks, readRefusal, Told, toldBy, answerFrame, answerTo, replyLine, spaceAfter}
 use Rattle.paper.proofs.Early.{none-early}
 use Rattle.paper.proofs.Room.{room}
 use Rattle.lines.specs.declared.Read.{Read}
@@ -41,9 +41,9 @@ module _ (s : Registers) (line : List ℕ) where
   f = bytesOf line
 
   abbrev judged : Verdict → Told
-  judged v = told sha256 s (kindOf f) (requestOf f) v
+  judged v = toldBy sha256 s (kindOf f) (requestOf f) v
 
-  pub without-room : (space : ℕ) → space < replyRoom → answerTo sha256 s line space ≡ judged (refused 15 [])
+  pub without-room : (space : ℕ) → space < replyRoom → answerTo sha256 s line space ≡ judged (refusedBy 15 [])
   unfolding answerTo
   without-room space h = rw (lt-ltb space replyRoom h, none-early sha256 s (requestOf f) .of-15) refl
 
@@ -52,7 +52,7 @@ module _ (s : Registers) (line : List ℕ) where
   unfolding answerTo
   with-room space h = rw (le-ltb space replyRoom h) refl
 
-  pub not-hex : isHex line .fails ≡ true → answerTo sha256 s line replyRoom ≡ judged (refused 1 [])
+  pub not-hex : isHex line .fails ≡ true → answerTo sha256 s line replyRoom ≡ judged (refusedBy 1 [])
   unfolding answerTo
   not-hex h = rw (h, none-early sha256 s (requestOf f) .of-15, none-early sha256 s (requestOf f) .of-1) refl
 

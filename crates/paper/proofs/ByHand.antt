@@ -13,7 +13,7 @@ use Rattle.seqs.specs.Bytes.{be64, allZero}
 use Rattle.hex.specs.Hex.{isDigit, valueOf, digitOf, lineOf, bytesOf}
 use Rattle.hex.proofs.Laws.{bytes-length}
 use Rattle.paper.specs.declared.Registers.{Registers}
-use Rattle.paper.specs.Strings.{Dig, nought, Str, node, cost, digest, parentForms, up, upForms, foldForms, malformed, inGap, recordHash, H}
+use Rattle.paper.specs.Strings.{Dig, nought, Str, node, cost, digestOf, parentForms, up, upForms, foldForms, malformed, inGap, recordHash, H}
 use Rattle.paper.specs.Requests.{mostSiblings, kinds, known, fits, requestOf}
 use Rattle.paper.specs.Refusals.{longestFrame}
 use Rattle.paper.specs.Module.{unopened, answerTo}
@@ -59,7 +59,7 @@ module _ (D : List ℕ → Dig) where
   parent-on u v rest h g n = by (allZero u) (allZero v) h g n
     where
       by : (p q : Bool) → p ≡ false → q ≡ false → NoZeroDigest D (pick q [] (pick p [] (node u v ∷ [])) ++ rest)
-          → (allZero (pick q u (pick p v (digest D (node u v)))) ≡ false) × NoZeroDigest D rest
+          → (allZero (pick q u (pick p v (digestOf D (node u v)))) ≡ false) × NoZeroDigest D rest
       by false false h g n = (n .0, n .1)
       by true q h g n = absurd (true≢false h)
       by false true h g n = absurd (true≢false g)

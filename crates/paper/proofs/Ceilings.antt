@@ -11,12 +11,12 @@ use Rattle.seqs.specs.Bytes.{same, allZero}
 use Rattle.hex.specs.Hex.{bytesOf}
 use Rattle.paper.specs.declared.Record.{Record}
 use Rattle.paper.specs.declared.Registers.{Registers}
-use Rattle.paper.specs.Strings.{Dig, nought, Memo, u1, v1, u2, ei, Str, leaf, node, entry, cost, blank, recordForms, parentForms, digest, memorandum, memorandumForms, up, upForms, foldForms}
+use Rattle.paper.specs.Strings.{Dig, nought, Memo, u1, v1, u2, ei, Str, leaf, node, entry, cost, blank, recordForms, parentForms, digestOf, memorandum, memorandumForms, up, upForms, foldForms}
 use Rattle.paper.specs.Requests as Q
 use Rattle.paper.specs.Requests.{Request, kindOf, requestOf}
-use Rattle.paper.specs.Refusals.{Check, order, requestOrder, roomFor, replyRoom, isHex, isKind, isFrame, nextRecord, clearedRecord, tried, first-memo, leafOf, leafForms, changeForms, changeSays, needs, those, formsAll, applies, formedAt, Verdict, refused, passed, formedBy, judge}
+use Rattle.paper.specs.Refusals.{Check, order, requestOrder, roomFor, replyRoom, isHex, isKind, isFrame, nextRecord, clearedRecord, tried, first-memo, leafOf, leafForms, changeForms, changeSays, needs, those, formsAll, applies, formedAt, Verdict, refusedBy, allPassed, formedBy, judge}
 use Rattle.paper.specs.Answers.{answer}
-use Rattle.paper.specs.Module.{frameChecks, told, answerFrame, answerTo}
+use Rattle.paper.specs.Module.{frameChecks, toldBy, answerFrame, answerTo}
 use Rattle.paper.specs.Ceilings.{ceiling, Ceilings}
 
 -- ── a verdict's strings are among those of its checks ──
@@ -31,7 +31,7 @@ all [] cs = 0
 all (n ∷ ns) cs = cost (formedAt n cs) + all ns cs
 
 judged-step : (b : Bool) (n : ℕ) (fs : List Str) (v : Verdict) (m k : ℕ) → cost fs ≤ m → cost (formedBy v) ≤ m + k
-    → cost (formedBy (pick b (refused n fs) v)) ≤ m + k
+    → cost (formedBy (pick b (refusedBy n fs) v)) ≤ m + k
 judged-step true n fs v m k h i = omega arith
 judged-step false n fs v m k h i = i
 
@@ -47,9 +47,9 @@ judged (n ∷ ns) fs cs =
 
 module _ (D : List ℕ → Dig) where
   told-cost : (s : Registers) (k : ℕ) (q : Request) (v : Verdict)
-      → cost (told D s k q v .formed) ≤ cost (answer D s q .forms) + cost (formedBy v)
-  told-cost s k q (refused n fs) = omega arith
-  told-cost s k q (passed fs) = omega (arith, cost-append (answer D s q .forms) fs)
+      → cost (toldBy D s k q v .formed) ≤ cost (answer D s q .forms) + cost (formedBy v)
+  told-cost s k q (refusedBy n fs) = omega arith
+  told-cost s k q (allPassed fs) = omega (arith, cost-append (answer D s q .forms) fs)
 
   -- ── what each part costs ──
 
@@ -139,9 +139,9 @@ module _ (D : List ℕ → Dig) where
   rows s (Q.swap x1 x2 y y′ m) = omega (arith, one (s .secret) (u2 x1 x2 y x2 x1 y′) m)
   rows s (Q.first A) = omega arith
   rows s (Q.place A A′ B′ ω y y′ m) =
-      let x1 = digest D (leaf A A′ ω) in
-      let x1′ = digest D (leaf A B′ ω) in
-      let x2 = digest D (leaf A′ B′ nought) in
+      let x1 = digestOf D (leaf A A′ ω) in
+      let x1′ = digestOf D (leaf A B′ ω) in
+      let x2 = digestOf D (leaf A′ B′ nought) in
       omega (arith, two (s .secret) (u2 x1 x2 y x1′ nought y′) (u2 x2 x1 y nought x1′ y′) m)
   rows s (Q.turn x y m) = omega (arith, one (s .secret) (ei x y) m)
   rows s (Q.chain x y m1 z m2) = omega (arith, one (s .secret) (ei x y) m1, one (s .secret) (ei y z) m2)
@@ -151,7 +151,7 @@ module _ (D : List ℕ → Dig) where
       omega (arith, changed s A A′ old new y y′ m 1 (record-cost new))
   rows s (Q.clear A A′ old y y′ m) = omega (arith, changed s A A′ old clearedRecord y y′ m 0 cleared-cost)
   rows s (Q.ask q A A′ r y m) =
-      let t : Memo = v1 (digest D (leafOf D A A′ r)) y in
+      let t : Memo = v1 (digestOf D (leafOf D A A′ r)) y in
       omega (
         arith,
         cost-append (leafForms D A A′ r) (tried D (s .secret) (t ∷ []) m),
@@ -164,7 +164,7 @@ module _ (D : List ℕ → Dig) where
 
   -- a request whose frame's own checks are met
   pub request-cost : (s : Registers) (k : ℕ) (q : Request)
-      → cost (told D s k q (judge requestOrder [] (needs D s q)) .formed) ≤ ceiling q
+      → cost (toldBy D s k q (judge requestOrder [] (needs D s q)) .formed) ≤ ceiling q
   request-cost s k q =
       let cs : List Check = needs D s q in
       omega (arith, told-cost s k q (judge requestOrder [] cs), judged requestOrder [] cs, rows s q)

@@ -5,14 +5,14 @@ use lib.ListN.{take, drop}
 use Rattle.seqs.specs.Bytes.{be64, numberOf, number-be64}
 use Rattle.paper.specs.declared.Finding.{Finding}
 use Rattle.paper.specs.declared.Finding.the-variants.{Recorded, Listed, Gap}
-use Rattle.paper.specs.Strings.{nums, numbers, SoundAll}
+use Rattle.paper.specs.Strings.{nums, numbers, FieldsFit}
 use Rattle.paper.specs.Answers.{findingBytes, findingIn}
 
 -- its numbers are such as 8 bytes hold
 abbrev pub SoundFinding : Finding → Type 0
-SoundFinding (Recorded A r) = SoundAll (nums (A .0 ∷ numbers r))
-SoundFinding (Listed A) = SoundAll (nums (A .0 ∷ []))
-SoundFinding (Gap A A′) = SoundAll (nums (A .0 ∷ A′ .0 ∷ []))
+SoundFinding (Recorded A r) = FieldsFit (nums (A .0 ∷ numbers r))
+SoundFinding (Listed A) = FieldsFit (nums (A .0 ∷ []))
+SoundFinding (Gap A A′) = FieldsFit (nums (A .0 ∷ A′ .0 ∷ []))
 
 pub finding-back : (f : Finding) → SoundFinding f → findingIn (findingBytes f) ≡ f
 unfolding findingIn be64

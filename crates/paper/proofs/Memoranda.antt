@@ -6,7 +6,7 @@ use Prim.Native.Nat.{ℕ}
 use native.Mathlib.Decide.{ℕ-discrete}
 use lib.ListN.{length, take, drop}
 use lib.Seq.{take-at, drop-at}
-use Rattle.paper.specs.Strings.{Dig, Memo, u1, Str, memo, enc, digest, memorandum, memorandumForms}
+use Rattle.paper.specs.Strings.{Dig, Memo, u1, Str, memoString, enc, digestOf, memorandum, memorandumForms}
 use Rattle.paper.specs.Collisions.{Collision}
 
 -- ── what the strings of two changes tell ──
@@ -22,7 +22,7 @@ third x y z r n m o =
     rw (drop-at x (y ++ (z ++ r)) 32 n, drop-at y (z ++ r) 32 m) (take-at z r 32 o)
 
 memo-tells : (x y x′ y′ a b a′ b′ k l : Dig) → length x ≡ 32 → length y ≡ 32 → length x′ ≡ 32 → length a ≡ 32 → length b ≡ 32
-    → length a′ ≡ 32 → enc (memo (u1 x y x′ y′) k) ≡ enc (memo (u1 a b a′ b′) l) → x′ ≡ a′
+    → length a′ ≡ 32 → enc (memoString (u1 x y x′ y′) k) ≡ enc (memoString (u1 a b a′ b′) l) → x′ ≡ a′
 unfolding enc
 memo-tells x y x′ y′ a b a′ b′ k l n m o n′ m′ o′ e =
     sym (third x y x′ (y′ ++ (k ++ [])) n m o)
@@ -31,7 +31,7 @@ memo-tells x y x′ y′ a b a′ b′ k l n m o n′ m′ o′ e =
 
 module _ (D : List ℕ → Dig) where
   -- two strings with one digest collide, or what they say is the same and leads on
-  pub or-same : (fs : List Str) (a b : Str) → List·Memᴰ a fs → List·Memᴰ b fs → digest D a ≡ digest D b
+  pub or-same : (fs : List Str) (a b : Str) → List·Memᴰ a fs → List·Memᴰ b fs → digestOf D a ≡ digestOf D b
       → (enc a ≡ enc b → Collision D fs) → Collision D fs
   or-same fs a b i j e next = by-bytes (List-discrete ℕ-discrete (enc a) (enc b))
     where
@@ -46,12 +46,12 @@ module _ (D : List ℕ → Dig) where
   MadeOf fs t k = (x : Str) → List·Memᴰ x (memorandumForms D t k) → List·Memᴰ x fs
 
   -- it is the digest of one of them
-  pub is-digest : (t : Memo) (k : Dig) → (x : Str) × List·Memᴰ x (memorandumForms D t k) × (digest D x ≡ memorandum D t k)
-  is-digest t k = (memo t k, List·Memᴰ·head refl, refl)
+  pub is-digest : (t : Memo) (k : Dig) → (x : Str) × List·Memᴰ x (memorandumForms D t k) × (digestOf D x ≡ memorandum D t k)
+  is-digest t k = (memoString t k, List·Memᴰ·head refl, refl)
 
   -- so what holds of every digest holds of it
   pub of-digests : (P : Dig → Type 0) → ((l : List ℕ) → P (D l)) → (t : Memo) (k : Dig) → P (memorandum D t k)
-  of-digests P h t k = h (enc (memo t k))
+  of-digests P h t k = h (enc (memoString t k))
 
   pub memorandum-32 : ((l : List ℕ) → length (D l) ≡ 32) → (t : Memo) (k : Dig) → length (memorandum D t k) ≡ 32
   memorandum-32 D32 t k = of-digests (λ d. length d ≡ 32) D32 t k
@@ -61,5 +61,5 @@ module _ (D : List ℕ → Dig) where
       → length b ≡ 32 → length a′ ≡ 32 → MadeOf fs (u1 x y x′ y′) k → MadeOf fs (u1 a b a′ b′) l
       → memorandum D (u1 x y x′ y′) k ≡ memorandum D (u1 a b a′ b′) l → (x′ ≡ a′ → Collision D fs) → Collision D fs
   one-new-half fs x y x′ y′ a b a′ b′ k l n m o n′ m′ o′ i j e next =
-      or-same fs (memo (u1 x y x′ y′) k) (memo (u1 a b a′ b′) l) (i _ (List·Memᴰ·head refl)) (j _ (List·Memᴰ·head refl)) e
+      or-same fs (memoString (u1 x y x′ y′) k) (memoString (u1 a b a′ b′) l) (i _ (List·Memᴰ·head refl)) (j _ (List·Memᴰ·head refl)) e
       (λ h. next (memo-tells x y x′ y′ a b a′ b′ k l n m o n′ m′ o′ h))

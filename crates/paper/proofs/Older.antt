@@ -16,14 +16,14 @@ use Rattle.hex.specs.Hex.{bytesOf}
 use Rattle.paper.specs.declared.Record.{Record}
 use Rattle.paper.specs.declared.Values.{Values}
 use Rattle.paper.specs.declared.Registers.{Registers}
-use Rattle.paper.specs.Strings.{Dig, nought, Memo, Str, leaf, entry, enc, digest, memorandum, blank, recordForms, recordHash}
+use Rattle.paper.specs.Strings.{Dig, nought, Memo, Str, leaf, entry, enc, digestOf, memorandum, blank, recordForms, recordHash}
 use Rattle.paper.specs.Requests.{Request, setTo, recordIn, valuesIn, Kind, kinds, kindOf, rowOf, takesAll, part, soundAll, fits, requestOf}
-use Rattle.paper.specs.Refusals.{Check, order, roomFor, replyRoom, isHex, top, nextRecord, numbersBefore, carried, leafOf, leafForms, changeForms, changeSays, needs, applies, formedAt, judge, Passed}
-use Rattle.paper.specs.Module.{frameChecks, Told, told, answerTo}
+use Rattle.paper.specs.Refusals.{Check, order, roomFor, replyRoom, isHex, top, nextRecord, numbersBefore, carriedMemoranda, leafOf, leafForms, changeForms, changeSays, needs, applies, formedAt, judge, Passed}
+use Rattle.paper.specs.Module.{frameChecks, Told, toldBy, answerTo}
 use Rattle.paper.specs.Collisions.{Collision}
 use Rattle.paper.proofs.Memoranda.{tail, or-same, MadeOf, one-new-half}
 use Rattle.paper.proofs.Verdicts.{opposite-false, the-one, firstOf, number-is, in-told, split-passed, passed-at, reached, passed-number}
-use Rattle.paper.specs.Older.{Fits, Later, OlderGets8}
+use Rattle.paper.specs.Older.{PastCheck8, Later, OlderGets8}
 
 -- ── where the number is 0 or 10, every other check is passed ──
 
@@ -34,15 +34,15 @@ abbrev others : List ℕ → Bool
 others [] = true
 others (n ∷ ns) = both (otherThan n) (others ns)
 
-other : (n : ℕ) → otherThan n ≡ true → Fits n → ⊥
+other : (n : ℕ) → otherThan n ≡ true → PastCheck8 n → ⊥
 other n h (inl e) = true≢false (sym h ∙ ap otherThan e)
 other n h (inr e) = true≢false (sym h ∙ ap otherThan e)
 
-passed-step : (b : Bool) (n m : ℕ) → otherThan n ≡ true → Fits (pick b n m) → (b ≡ false) × Fits m
+passed-step : (b : Bool) (n m : ℕ) → otherThan n ≡ true → PastCheck8 (pick b n m) → (b ≡ false) × PastCheck8 m
 passed-step true n m h f = absurd (other n h f)
 passed-step false n m h f = (refl, f)
 
-all-passed : (ns rest : List ℕ) (cs : List Check) → others ns ≡ true → Fits (firstOf (ns ++ rest) cs) → Passed ns cs
+all-passed : (ns rest : List ℕ) (cs : List Check) → others ns ≡ true → PastCheck8 (firstOf (ns ++ rest) cs) → Passed ns cs
 all-passed [] rest cs h f = tt
 all-passed (n ∷ ns) rest cs h f =
     let hs = both-true (otherThan n) (others ns) h in
@@ -159,7 +159,7 @@ module _ (D : List ℕ → Dig) (D32 : (l : List ℕ) → length (D l) ≡ 32) w
     abbrev checks : List Check
     checks = roomFor replyRoom n ∷ isHex line ∷ (frameChecks (bytesOf line) ++ needs D r q)
 
-    judged : answerTo D r line n ≡ told D r kind q (judge order [] checks)
+    judged : answerTo D r line n ≡ toldBy D r kind q (judge order [] checks)
     unfolding answerTo
     judged = rw (l .is-set) refl
 
@@ -216,7 +216,7 @@ module _ (D : List ℕ → Dig) (D32 : (l : List ℕ) → length (D l) ≡ 32) w
     then-passed : Passed before checks₀ × Passed (8 ∷ []) checks₀
     then-passed =
         split-passed before (8 ∷ []) checks₀
-        (all-passed (before ++ (8 ∷ [])) (9 ∷ 10 ∷ []) checks₀ refl (subst Fits (number l₀ s₀ space₀) (L .fitted)))
+        (all-passed (before ++ (8 ∷ [])) (9 ∷ 10 ∷ []) checks₀ refl (subst PastCheck8 (number l₀ s₀ space₀) (L .fitted)))
 
     now-passed : Passed before now
     now-passed =
@@ -232,7 +232,7 @@ module _ (D : List ℕ → Dig) (D32 : (l : List ℕ) → length (D l) ≡ 32) w
 
     one-memorandum : l₀ .m ≡ l .m
     one-memorandum =
-        ap head-of (ap (carried D s₀) (sym (l₀ .is-set)) ∙ L .one-memorandum ∙ ap (carried D s) (l .is-set))
+        ap head-of (ap (carriedMemoranda D s₀) (sym (l₀ .is-set)) ∙ L .one-memorandum ∙ ap (carriedMemoranda D s) (l .is-set))
 
     formed-then : (x : Str) → List·Memᴰ x (formedAt 8 checks₀) → List·Memᴰ x fs
     formed-then x i = Memᴰ·append-left _ (formed l₀ s₀ space₀ x (then-passed .0) i)
@@ -250,7 +250,7 @@ module _ (D : List ℕ → Dig) (D32 : (l : List ℕ) → length (D l) ≡ 32) w
         (hashes-by (blank (new l₀ s₀ space₀)) (blank (new l s space)) nought _ _ (not-blank l₀ s₀ space₀) (not-blank l s space) h)
         (λ b. let n = entry-tells (new l₀ s₀ space₀) (new l s space) (omega arith) (omega arith) b in absurd (omega arith))
 
-    leaves : digest D (newLeaf l₀ s₀ space₀) ≡ digest D (newLeaf l s space) → Collision D fs
+    leaves : digestOf D (newLeaf l₀ s₀ space₀) ≡ digestOf D (newLeaf l s space) → Collision D fs
     leaves h =
         or-same D fs (newLeaf l₀ s₀ space₀) (newLeaf l s space) (formed-then _ (leaf-formed l₀ s₀ space₀))
         (formed-now _ (leaf-formed l s space)) h

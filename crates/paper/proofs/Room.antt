@@ -19,13 +19,13 @@ use Rattle.paper.specs.declared.Finding.the-variants.{Recorded, Listed, 
 use Rattle.paper.specs.Strings.{Dig, Memo, enc, node, u1, blank, memorandum, H, up, foldUp}
 use Rattle.paper.specs.Requests as Q
 use Rattle.paper.specs.Requests.{Carried, aNumber, aDigest, aRecord, theValues, aPath, countIn, sidesIn, digestsIn, siblingsIn, Kind, kinds, kindOf, rowOf, takes, part, requestOf}
-use Rattle.paper.specs.Refusals.{Check, order, replyRoom, applies, Verdict, refused, passed, judge, Passed, FirstToApply}
+use Rattle.paper.specs.Refusals.{Check, order, replyRoom, applies, Verdict, refusedBy, allPassed, judge, Passed, FirstToApply}
 use Rattle.paper.specs.Answers.{findingOf, findingBytes, answer}
-use Rattle.paper.specs.Module.{told, checksOf, answerTo, replyLine}
+use Rattle.paper.specs.Module.{toldBy, checksOf, answerTo, replyLine}
 use Rattle.paper.proofs.Early.{none-early}
 use Rattle.paper.proofs.Memoranda.{memorandum-32}
 use Rattle.paper.proofs.Verdicts.{firstOf, number-is, first-given}
-use Rattle.paper.specs.ByHand.{Room}
+use Rattle.paper.specs.ByHand.{SpaceOf195}
 
 -- ── digests of at most 32 bytes ──
 
@@ -166,19 +166,19 @@ module _ (D : List ℕ → Dig) (D32 : (l : List ℕ) → length (D l) ≡ 32) w
   -- ── the reply's line ──
 
   module _ (s : Registers) (f : List ℕ) where
-    said-short : (v : Verdict) → length (told D s (kindOf f) (requestOf f) v .says) ≤ 97
+    said-short : (v : Verdict) → length (toldBy D s (kindOf f) (requestOf f) v .says) ≤ 97
     unfolding requestOf
-    said-short (refused n fs) = omega arith
-    said-short (passed fs) = omega (arith, lists-short (kindOf f) s _ (short-parts (rowOf (kindOf f) .carries) (drop 1 f)))
+    said-short (refusedBy n fs) = omega arith
+    said-short (allPassed fs) = omega (arith, lists-short (kindOf f) s _ (short-parts (rowOf (kindOf f) .carries) (drop 1 f)))
 
-    line-short : (v : Verdict) → length (replyLine (told D s (kindOf f) (requestOf f) v)) ≤ replyRoom
-    line-short v = by-test (eqb (told D s (kindOf f) (requestOf f) v .refusal) 15)
+    line-short : (v : Verdict) → length (replyLine (toldBy D s (kindOf f) (requestOf f) v)) ≤ replyRoom
+    line-short v = by-test (eqb (toldBy D s (kindOf f) (requestOf f) v .refusal) 15)
       where
-        by-test : (b : Bool) → length (pick b [] (lineOf (told D s (kindOf f) (requestOf f) v .says))) ≤ replyRoom
+        by-test : (b : Bool) → length (pick b [] (lineOf (toldBy D s (kindOf f) (requestOf f) v .says))) ≤ replyRoom
         by-test true = omega arith
-        by-test false = omega (arith, said-short v, line-length (told D s (kindOf f) (requestOf f) v .says))
+        by-test false = omega (arith, said-short v, line-length (toldBy D s (kindOf f) (requestOf f) v .says))
 
-  pub room : (s : Registers) (line : List ℕ) → Room D s line
+  pub room : (s : Registers) (line : List ℕ) → SpaceOf195 D s line
   unfolding answerTo
   room s line =
       let f = bytesOf line in

@@ -12,10 +12,10 @@ use Rattle.seqs.specs.Bytes.{same, same-true, same-refl}
 use Rattle.hex.specs.Hex.{bytesOf}
 use Rattle.paper.specs.declared.Record.{Record}
 use Rattle.paper.specs.declared.Registers.{Registers}
-use Rattle.paper.specs.Strings.{Dig, nought, Memo, u1, v1, u2, ei, Str, digest, memorandum, memorandumForms}
+use Rattle.paper.specs.Strings.{Dig, nought, Memo, u1, v1, u2, ei, Str, digestOf, memorandum, memorandumForms}
 use Rattle.paper.specs.Requests as Q
 use Rattle.paper.specs.Requests.{Request, requestOf}
-use Rattle.paper.specs.Refusals.{Check, plain, order, requestOrder, compared, noneFits, tried, first-memo, second-memo, nextRecord, clearedRecord, placeForms, placeSays, leafOf, leafForms, changeForms, changeSays, needs, carried, those, applies, formedAt, formedBy, numbersBefore, Passed}
+use Rattle.paper.specs.Refusals.{Check, plain, order, requestOrder, compared, noneFits, tried, first-memo, second-memo, nextRecord, clearedRecord, placeForms, placeSays, leafOf, leafForms, changeForms, changeSays, needs, carriedMemoranda, those, applies, formedAt, formedBy, numbersBefore, Passed}
 use Rattle.paper.specs.Module.{checksOf}
 use Rattle.paper.specs.Collisions.{Collision}
 use Rattle.paper.specs.Shortcuts.{verdictOn, refusalFor, Shortcuts}
@@ -59,7 +59,7 @@ numbered-order D s line space =
 abbrev Comparing : (D : List ℕ → Dig) → Check → Type 0
 Comparing D c =
     (m : Dig) → List·Memᴰ m (c .compares)
-    → ((c .number ≡ 8) ⊎ (c .number ≡ 9)) × (c .fails ≡ false → (x : Str) × List·Memᴰ x (c .forms) × (digest D x ≡ m))
+    → ((c .number ≡ 8) ⊎ (c .number ≡ 9)) × (c .fails ≡ false → (x : Str) × List·Memᴰ x (c .forms) × (digestOf D x ≡ m))
 
 abbrev AllComparing : (D : List ℕ → Dig) → List Check → Type 0
 AllComparing D [] = Unit {0}
@@ -67,14 +67,14 @@ AllComparing D (c ∷ cs) = Comparing D c × AllComparing D cs
 
 module _ (D : List ℕ → Dig) where
   fitting : (k : Dig) (says : List Memo) (m : Dig) → noneFits D k says m ≡ false
-      → (x : Str) × List·Memᴰ x (tried D k says m) × (digest D x ≡ m)
+      → (x : Str) × List·Memᴰ x (tried D k says m) × (digestOf D x ≡ m)
   fitting k [] m h = absurd (true≢false h)
   fitting k (t ∷ l) m h = by-test (same (memorandum D t k) m) refl (fitting k l m) h
     where
       by-test : (b : Bool) → same (memorandum D t k) m ≡ b
-          → (noneFits D k l m ≡ false → (x : Str) × List·Memᴰ x (tried D k l m) × (digest D x ≡ m))
+          → (noneFits D k l m ≡ false → (x : Str) × List·Memᴰ x (tried D k l m) × (digestOf D x ≡ m))
           → pick b false (noneFits D k l m) ≡ false
-          → (x : Str) × List·Memᴰ x (memorandumForms D t k ++ pick b [] (tried D k l m)) × (digest D x ≡ m)
+          → (x : Str) × List·Memᴰ x (memorandumForms D t k ++ pick b [] (tried D k l m)) × (digestOf D x ≡ m)
       by-test true e later h =
           let f = is-digest D t k in
           (f .0, Memᴰ·append-left [] (f .1), f .2 ∙ same-true (memorandum D t k) m e)
@@ -120,7 +120,7 @@ module _ (D : List ℕ → Dig) where
       and of-change s A A′ old clearedRecord y y′ m and of-numbers and tt
   comparing s (Q.ask q A A′ r y m) =
       of-numbers and of-numbers and of-numbers and of-numbers and of-numbers and of-numbers
-      and of-first s (leafForms D A A′ r) (v1 (digest D (leafOf D A A′ r)) y ∷ []) m and of-numbers and tt
+      and of-first s (leafForms D A A′ r) (v1 (digestOf D (leafOf D A A′ r)) y ∷ []) m and of-numbers and tt
   comparing s (Q.askNone q) = of-numbers and of-numbers and of-numbers and tt
   comparing s (Q.unlock k) = of-numbers and of-numbers and tt
 
@@ -128,7 +128,7 @@ module _ (D : List ℕ → Dig) where
   record Compared (m : Dig) (cs : List Check) : Type 0 where
     check : Check
     in-list : List·Memᴰ check cs
-    of : ((check .number ≡ 8) ⊎ (check .number ≡ 9)) × (check .fails ≡ false → (x : Str) × List·Memᴰ x (check .forms) × (digest D x ≡ m))
+    of : ((check .number ≡ 8) ⊎ (check .number ≡ 9)) × (check .fails ≡ false → (x : Str) × List·Memᴰ x (check .forms) × (digestOf D x ≡ m))
 
   find : (m : Dig) (cs : List Check) → AllComparing D cs → List·Memᴰ m (compared cs) → Compared m cs
   find m [] a i = elim i [ ]
@@ -141,7 +141,7 @@ module _ (D : List ℕ → Dig) where
           let f = later j in
           record { check = f .check; in-list = List·Memᴰ·tail (f .in-list); of = f .of }
 
-  module _ (s : Registers) (q : Request) (i : List·Memᴰ nought (carried D s q))
+  module _ (s : Registers) (q : Request) (i : List·Memᴰ nought (carriedMemoranda D s q))
       (h : Passed (numbersBefore 8 requestOrder) (needs D s q)) where
     abbrev cs : List Check
     cs = needs D s q
@@ -150,7 +150,7 @@ module _ (D : List ℕ → Dig) where
     Refused = (refusalFor D s q ≡ 8) ⊎ (refusalFor D s q ≡ 9)
 
     abbrev ZeroFormed : Type 0
-    ZeroFormed = (x : Str) × List·Memᴰ x (formedBy (verdictOn D s q)) × (digest D x ≡ nought)
+    ZeroFormed = (x : Str) × List·Memᴰ x (formedBy (verdictOn D s q)) × (digestOf D x ≡ nought)
 
     number : refusalFor D s q ≡ firstOf (8 ∷ 9 ∷ 10 ∷ []) cs
     number = refusal-first requestOrder [] cs ∙ passed-number (numbersBefore 8 requestOrder) (8 ∷ 9 ∷ 10 ∷ []) cs h

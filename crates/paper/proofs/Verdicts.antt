@@ -10,9 +10,9 @@ use Rattle.seqs.specs.Choose.{pick, either, opposite, either-no}
 use Rattle.paper.specs.declared.Registers.{Registers}
 use Rattle.paper.specs.Strings.{Dig, Str}
 use Rattle.paper.specs.Requests.{Request}
-use Rattle.paper.specs.Refusals.{Check, those, anyFails, formsAll, applies, formedAt, Verdict, refused, passed, formedBy, judge, Passed, FirstToApply}
+use Rattle.paper.specs.Refusals.{Check, those, anyFails, formsAll, applies, formedAt, Verdict, refusedBy, allPassed, formedBy, judge, Passed, FirstToApply}
 use Rattle.paper.specs.Answers.{answer}
-use Rattle.paper.specs.Module.{refusalOf, told}
+use Rattle.paper.specs.Module.{refusalOf, toldBy}
 use Rattle.paper.proofs.Early.{among}
 
 -- ── the tests of checks that do not fail ──
@@ -60,7 +60,8 @@ abbrev pub firstOf : List ℕ → List Check → ℕ
 firstOf [] cs = 0
 firstOf (n ∷ ns) cs = pick (applies n cs) n (firstOf ns cs)
 
-number-step : (b : Bool) (n : ℕ) (fs : List Str) (v : Verdict) (m : ℕ) → refusalOf v ≡ m → refusalOf (pick b (refused n fs) v) ≡ pick b n m
+number-step : (b : Bool) (n : ℕ) (fs : List Str) (v : Verdict) (m : ℕ) → refusalOf v ≡ m
+    → refusalOf (pick b (refusedBy n fs) v) ≡ pick b n m
 number-step true n fs v m h = refl
 number-step false n fs v m h = h
 
@@ -71,20 +72,20 @@ refusal-first (n ∷ ns) fs cs =
     (refusal-first ns (formedAt n cs ++ fs) cs)
 
 module _ (D : List ℕ → Dig) (s : Registers) (k : ℕ) (q : Request) where
-  told-number : (v : Verdict) → told D s k q v .refusal ≡ refusalOf v
-  told-number (refused n fs) = refl
-  told-number (passed fs) = refl
+  told-number : (v : Verdict) → toldBy D s k q v .refusal ≡ refusalOf v
+  told-number (refusedBy n fs) = refl
+  told-number (allPassed fs) = refl
 
-  pub number-is : (ns : List ℕ) (fs : List Str) (cs : List Check) → told D s k q (judge ns fs cs) .refusal ≡ firstOf ns cs
+  pub number-is : (ns : List ℕ) (fs : List Str) (cs : List Check) → toldBy D s k q (judge ns fs cs) .refusal ≡ firstOf ns cs
   number-is ns fs cs = told-number (judge ns fs cs) ∙ refusal-first ns fs cs
 
-  pub in-told : (x : Str) (v : Verdict) → List·Memᴰ x (formedBy v) → List·Memᴰ x (told D s k q v .formed)
-  in-told x (refused n fs) m = m
-  in-told x (passed fs) m = Memᴰ·append-right (answer D s q .forms) m
+  pub in-told : (x : Str) (v : Verdict) → List·Memᴰ x (formedBy v) → List·Memᴰ x (toldBy D s k q v .formed)
+  in-told x (refusedBy n fs) m = m
+  in-told x (allPassed fs) m = Memᴰ·append-right (answer D s q .forms) m
 
 -- strings formed stay so
 stays-step : (x : Str) (b : Bool) (n : ℕ) (fs : List Str) (v : Verdict) → List·Memᴰ x fs → List·Memᴰ x (formedBy v)
-    → List·Memᴰ x (formedBy (pick b (refused n fs) v))
+    → List·Memᴰ x (formedBy (pick b (refusedBy n fs) v))
 stays-step x true n fs v h i = h
 stays-step x false n fs v h i = i
 

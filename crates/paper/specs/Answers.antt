@@ -12,7 +12,7 @@ use Rattle.paper.specs.declared.Record.{Record}
 use Rattle.paper.specs.declared.Registers.{Registers}
 use Rattle.paper.specs.declared.Finding.{Finding}
 use Rattle.paper.specs.declared.Finding.the-variants.{Recorded, Listed, Gap}
-use Rattle.paper.specs.Strings.{Dig, nought, Memo, u1, v1, u2, ei, Str, leaf, nums, numbers, spread, blank, parentForms, digest, memorandum, memorandumForms, H, foldUp, foldForms}
+use Rattle.paper.specs.Strings.{Dig, nought, Memo, u1, v1, u2, ei, Str, leaf, nums, numbers, spread, blank, parentForms, digestOf, memorandum, memorandumForms, H, foldUp, foldForms}
 use Rattle.paper.specs.Requests.{Request, path, witness, join, pair, raise, swap, first, place, turn, chain, adopt, setTo, clear, ask, askNone, unlock, recordIn}
 use Rattle.paper.specs.Refusals.{nextRecord, clearedRecord}
 
@@ -82,7 +82,7 @@ abbrev pub unlocked : Registers → Dig → Registers
 unlocked s k = shownOpen (withSecret s k)
 
 -- ── answers ──
-pub record Answer : Type 0 where
+pub record AnswerParts : Type 0 where
   pub lists : List ℕ
   pub after : Registers
   pub forms : List Str
@@ -90,8 +90,8 @@ pub record Answer : Type 0 where
 
 module _ (D : List ℕ → Dig) where
   -- an answer that lists some digests and then the memorandum that it issues
-  abbrev pub issue : Registers → (shown : List ℕ) (before : List Str) → Memo → ListChange → Answer
-  issue s shown before t c =
+  abbrev pub answerIssuing : Registers → (shown : List ℕ) (before : List Str) → Memo → ListChange → AnswerParts
+  answerIssuing s shown before t c =
       record {
         lists = shown ++ memorandum D t (s .secret);
         after = s;
@@ -99,21 +99,21 @@ module _ (D : List ℕ → Dig) where
         effect = issues t c;
       }
 
-  abbrev pub answer : Registers → Request → Answer
+  abbrev pub answer : Registers → Request → AnswerParts
   answer s (path x x′ sides l) =
       let y = foldUp D x sides l in
       let y′ = foldUp D x′ sides l in
-      issue s (y ++ y′) (foldForms D x′ sides l ++ foldForms D x sides l) (u1 x y x′ y′) nothing
-  answer s (witness x y m) = issue s [] [] (v1 x y) nothing
-  answer s (join x y x′ y′ m1 z z′ m2) = issue s [] [] (u1 x z x′ z′) nothing
+      answerIssuing s (y ++ y′) (foldForms D x′ sides l ++ foldForms D x sides l) (u1 x y x′ y′) nothing
+  answer s (witness x y m) = answerIssuing s [] [] (v1 x y) nothing
+  answer s (join x y x′ y′ m1 z z′ m2) = answerIssuing s [] [] (u1 x z x′ z′) nothing
   answer s (pair x1 y x1′ y′ m1 x2 z x2′ z′ m2) =
-      issue s [] (parentForms y′ z′ ++ parentForms y z) (u2 x1 x2 (H D y z) x1′ x2′ (H D y′ z′)) nothing
-  answer s (raise x1 x2 y x1′ x2′ y′ m1 z z′ m2) = issue s [] [] (u2 x1 x2 z x1′ x2′ z′) nothing
-  answer s (swap x1 x2 y y′ m) = issue s [] [] (ei y y′) nothing
-  answer s (first A) = issue s [] (leaf A A nought ∷ []) (ei nought (digest D (leaf A A nought))) (adds A)
-  answer s (place A A′ B′ ω y y′ m) = issue s [] [] (ei y y′) (removes A′)
-  answer s (turn x y m) = issue s [] [] (ei y x) (reverses m)
-  answer s (chain x y m1 z m2) = issue s [] [] (ei x z) (bothInOrder m1 m2)
+      answerIssuing s [] (parentForms y′ z′ ++ parentForms y z) (u2 x1 x2 (H D y z) x1′ x2′ (H D y′ z′)) nothing
+  answer s (raise x1 x2 y x1′ x2′ y′ m1 z z′ m2) = answerIssuing s [] [] (u2 x1 x2 z x1′ x2′ z′) nothing
+  answer s (swap x1 x2 y y′ m) = answerIssuing s [] [] (ei y y′) nothing
+  answer s (first A) = answerIssuing s [] (leaf A A nought ∷ []) (ei nought (digestOf D (leaf A A nought))) (adds A)
+  answer s (place A A′ B′ ω y y′ m) = answerIssuing s [] [] (ei y y′) (removes A′)
+  answer s (turn x y m) = answerIssuing s [] [] (ei y x) (reverses m)
+  answer s (chain x y m1 z m2) = answerIssuing s [] [] (ei x z) (bothInOrder m1 m2)
   answer s (adopt y y′ m) = record { lists = y′; after = rooted s y′; forms = []; effect = adopts m }
   answer s (setTo A A′ old v y y′ m) =
       record {

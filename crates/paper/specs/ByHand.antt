@@ -12,7 +12,7 @@ use Rattle.seqs.specs.Bytes.{allZero}
 use Rattle.hex.specs.Hex.{allDigits, bytesOf, digitsOf}
 use Rattle.paper.specs.declared.Record.{Record}
 use Rattle.paper.specs.declared.Registers.{Registers}
-use Rattle.paper.specs.Strings.{Dig, nought, Str, leaf, node, entry, memo, u1, v1, u2, ei, lengthOf, cost, malformed, inGap, digest, recordHash, H, foldForms}
+use Rattle.paper.specs.Strings.{Dig, nought, Str, leaf, node, entry, memoString, u1, v1, u2, ei, lengthOf, cost, malformed, inGap, digestOf, recordHash, H, foldForms}
 use Rattle.paper.specs.Requests.{mostSiblings, path, kindOf}
 use Rattle.paper.specs.Refusals.{longestFrame, longestLine, replyRoom, top}
 use Rattle.paper.specs.Answers.{answer}
@@ -76,10 +76,10 @@ table u =
     ∷ lengthRow (leaf 0 0 u) 49
     ∷ lengthRow (node u u) 65
     ∷ lengthRow (entry (four 0 0 0 0)) 33
-    ∷ lengthRow (memo (u1 u u u u) u) 161
-    ∷ lengthRow (memo (v1 u u) u) 97
-    ∷ lengthRow (memo (u2 u u u u u u) u) 225
-    ∷ lengthRow (memo (ei u u) u) 97
+    ∷ lengthRow (memoString (u1 u u u u) u) 161
+    ∷ lengthRow (memoString (v1 u u) u) 97
+    ∷ lengthRow (memoString (u2 u u u u u u) u) 225
+    ∷ lengthRow (memoString (ei u u) u) 97
     -- "The longest frame has 2,122 bytes, so 4,244 digits."; "c at 2^64 - 1"
     ∷ constantRow longestFrame 2122
     ∷ constantRow longestLine 4244
@@ -99,7 +99,7 @@ NoneZero (d ∷ l) = (allZero d ≡ false) × NoneZero l
 
 abbrev pub NoZeroDigest : (D : List ℕ → Dig) → List Str → Type 0
 NoZeroDigest D [] = Unit {0}
-NoZeroDigest D (s ∷ l) = (allZero (digest D s) ≡ false) × NoZeroDigest D l
+NoZeroDigest D (s ∷ l) = (allZero (digestOf D s) ≡ false) × NoZeroDigest D l
 
 abbrev pub PathOf64 : (D : List ℕ → Dig) → Type 0
 PathOf64 D = (s : Registers) (x x′ : Dig) (sides : ℕ) (l : List Dig) → NoneZero (x ∷ x′ ∷ l) → length l ≡ 64
@@ -115,7 +115,7 @@ PathReaches259 =
     cost (answer (λ l. ones) (unopened nought) (path ones ones 0 (replicate mostSiblings ones)) .forms) ≡ 259
 
 -- "Replies of 194 bytes of space get 15, 195 do.": 195 hold the longest reply's line, with its 0A
-pub record Room (D : List ℕ → Dig) (s : Registers) (line : List ℕ) : Type 0 where
+pub record SpaceOf195 (D : List ℕ → Dig) (s : Registers) (line : List ℕ) : Type 0 where
   pub too-small : (space : ℕ) → space ≤ 194 → answerTo D s line space .refusal ≡ 15
   pub enough : (space : ℕ) → 195 ≤ space → answerTo D s line space .refusal ≡ 15 → ⊥
   pub holds : (space : ℕ) → length (replyLine (answerTo D s line space)) ≤ 195
@@ -167,6 +167,6 @@ pub record ByHand : Type 1 where
   pub gap-of-one : (q A : ℕ) → eqb q 0 ≡ false → inGap q A A ≡ opposite (eqb q A)
   pub path : (D : List ℕ → Dig) → PathOf64 D
   pub path-reaches : PathReaches259
-  pub room : (D : List ℕ → Dig) → ((l : List ℕ) → length (D l) ≡ 32) → (s : Registers) (line : List ℕ) → Room D s line
+  pub room : (D : List ℕ → Dig) → ((l : List ℕ) → length (D l) ≡ 32) → (s : Registers) (line : List ℕ) → SpaceOf195 D s line
   pub edges : (D : List ℕ → Dig) (s : Registers) (l : List ℕ) → EdgesOf65 D s l
   pub run : (D : List ℕ → Dig) → Runs D (unopened nought) wholeRun

@@ -1,4 +1,4 @@
--- The memoranda that a request carries, kind by kind: m, m1 and m2 of the table's column "carries". `carried` gathers them from
+-- The memoranda that a request carries, kind by kind: m, m1 and m2 of the table's column "carries". `carriedMemoranda` gathers them from
 -- the checks that compare them; that it comes to these and no other is `CarriesJustThese`, which `proofs/Carrying` shows.
 use mathlib.Core.Path.{_≡_}
 use mathlib.Core.List.{List, [], _∷_}
@@ -6,7 +6,7 @@ use Prim.Native.Nat.{ℕ}
 use Rattle.paper.specs.declared.Registers.{Registers}
 use Rattle.paper.specs.Strings.{Dig}
 use Rattle.paper.specs.Requests.{Request, path, witness, join, pair, raise, swap, first, place, turn, chain, adopt, setTo, clear, ask, askNone, unlock}
-use Rattle.paper.specs.Refusals.{carried}
+use Rattle.paper.specs.Refusals.{carriedMemoranda}
 
 abbrev pub memoranda : Request → List Dig
 memoranda (path x x′ sides l) = []
@@ -27,4 +27,4 @@ memoranda (askNone q) = []
 memoranda (unlock k) = []
 
 abbrev pub CarriesJustThese : Type 0
-CarriesJustThese = (D : List ℕ → Dig) (s : Registers) (q : Request) → carried D s q ≡ memoranda q
+CarriesJustThese = (D : List ℕ → Dig) (s : Registers) (q : Request) → carriedMemoranda D s q ≡ memoranda q

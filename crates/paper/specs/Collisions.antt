@@ -3,7 +3,7 @@
 use mathlib.Core.Path.{_≡_}
 use mathlib.Core.List.{List, List·Memᴰ}
 use Prim.Native.Nat.{ℕ}
-use Rattle.paper.specs.Strings.{Dig, Str, enc, digest}
+use Rattle.paper.specs.Strings.{Dig, Str, enc, digestOf}
 
 -- both are among the strings formed, and they differ as bytes
 pub record Collision (D : List ℕ → Dig) (formed : List Str) : Type 0 where
@@ -12,4 +12,4 @@ pub record Collision (D : List ℕ → Dig) (formed : List Str) : Type 0 where
   pub one-formed : List·Memᴰ one formed
   pub other-formed : List·Memᴰ other formed
   pub differ : enc one ≡ enc other → ⊥
-  pub agree : digest D one ≡ digest D other
+  pub agree : digestOf D one ≡ digestOf D other

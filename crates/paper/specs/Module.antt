@@ -9,15 +9,15 @@ use Rattle.hex.specs.Hex.{bytesOf, lineOf}
 use Rattle.paper.specs.declared.Registers.{Registers}
 use Rattle.paper.specs.Strings.{Dig, nought, Str}
 use Rattle.paper.specs.Requests.{Request, kindOf, requestOf}
-use Rattle.paper.specs.Refusals.{Check, plain, order, longestFrame, roomFor, replyRoom, isHex, isKind, isFrame, needs, Verdict, refused, passed, judge}
+use Rattle.paper.specs.Refusals.{Check, plain, order, longestFrame, roomFor, replyRoom, isHex, isKind, isFrame, needs, Verdict, refusedBy, allPassed, judge}
 use Rattle.paper.specs.Answers.{Effect, none′, answer}
 
 -- ── the reader and the writer ──
 
 -- the number of a refusal, 0 where there is none
 abbrev pub refusalOf : Verdict → ℕ
-refusalOf (refused n fs) = n
-refusalOf (passed fs) = 0
+refusalOf (refusedBy n fs) = n
+refusalOf (allPassed fs) = 0
 
 -- the order of both
 abbrev pub lineOrder : List ℕ
@@ -62,9 +62,9 @@ pub record Told : Type 0 where
 module _ (D : List ℕ → Dig) where
   -- "A refusal is 00 and its number", "registers stay as they were each time"; "a reply is the kind plus 80
   -- hexadecimal, then what the table lists"
-  abbrev pub told : Registers → (kind : ℕ) → Request → Verdict → Told
-  told s kind q (refused n fs) = record { refusal = n; says = 0x00 ∷ n ∷ []; after = s; formed = fs; effect = none′ }
-  told s kind q (passed fs) =
+  abbrev pub toldBy : Registers → (kind : ℕ) → Request → Verdict → Told
+  toldBy s kind q (refusedBy n fs) = record { refusal = n; says = 0x00 ∷ n ∷ []; after = s; formed = fs; effect = none′ }
+  toldBy s kind q (allPassed fs) =
       let a = answer D s q in
       record {
         refusal = 0;
@@ -76,7 +76,7 @@ module _ (D : List ℕ → Dig) where
 
   -- a frame, well formed or not
   unfoldable pub answerFrame : Registers → (frame : List ℕ) → Told
-  answerFrame s f = told s (kindOf f) (requestOf f) (judge (drop 2 order) [] (frameChecks f ++ needs D s (requestOf f)))
+  answerFrame s f = toldBy s (kindOf f) (requestOf f) (judge (drop 2 order) [] (frameChecks f ++ needs D s (requestOf f)))
 
   -- a line with its reply space: every check that it comes under, then its answer by the first that fails
   abbrev pub checksOf : Registers → (line : List ℕ) (space : ℕ) → List Check
@@ -87,7 +87,7 @@ module _ (D : List ℕ → Dig) where
   unfoldable pub answerTo : Registers → (line : List ℕ) (space : ℕ) → Told
   answerTo s line space =
       let f = bytesOf line in
-      told s (kindOf f) (requestOf f) (judge order [] (checksOf s line space))
+      toldBy s (kindOf f) (requestOf f) (judge order [] (checksOf s line space))
 
 -- the reply's line, with its 0A; of 15 "nothing written"
 abbrev pub replyLine : Told → List ℕ

@@ -11,7 +11,7 @@ use Rattle.hex.specs.Hex.{allDigits}
 use Rattle.paper.specs.declared.Record.{Record}
 use Rattle.paper.specs.declared.Values.{Values}
 use Rattle.paper.specs.declared.Registers.{Registers}
-use Rattle.paper.specs.Strings.{Dig, nought, Memo, u1, v1, u2, ei, Str, leaf, malformed, emptyRecord, blank, recordForms, inGap, digest, memorandum, memorandumForms, recordHash}
+use Rattle.paper.specs.Strings.{Dig, nought, Memo, u1, v1, u2, ei, Str, leaf, malformed, emptyRecord, blank, recordForms, inGap, digestOf, memorandum, memorandumForms, recordHash}
 use Rattle.paper.specs.Requests.{Request, path, witness, join, pair, raise, swap, first, place, turn, chain, adopt, setTo, clear, ask, askNone, unlock, known, fits, mostSiblings}
 
 -- A check: its number in 01's table, whether it fails ("given when"), the strings that it forms, and the memorandum that it
@@ -175,13 +175,13 @@ module _ (D : List ℕ → Dig) where
   changeForms A A′ old new = leafForms A A′ old ++ leafForms A A′ new
 
   abbrev pub changeSays : (A A′ : ℕ) (old new : Record) (y y′ : Dig) → Memo
-  changeSays A A′ old new y y′ = u1 (digest D (leafOf A A′ old)) y (digest D (leafOf A A′ new)) y′
+  changeSays A A′ old new y y′ = u1 (digestOf D (leafOf A A′ old)) y (digestOf D (leafOf A A′ new)) y′
 
   abbrev pub placeSays : (A A′ B′ : ℕ) (ω y y′ : Dig) → List Memo
   placeSays A A′ B′ ω y y′ =
-      let x1 = digest D (leaf A A′ ω) in
-      let x1′ = digest D (leaf A B′ ω) in
-      let x2 = digest D (leaf A′ B′ nought) in
+      let x1 = digestOf D (leaf A A′ ω) in
+      let x1′ = digestOf D (leaf A B′ ω) in
+      let x2 = digestOf D (leaf A′ B′ nought) in
       u2 x1 x2 y x1′ nought y′ ∷ u2 x2 x1 y nought x1′ y′ ∷ []
 
   abbrev pub needs : Registers → Request → List Check
@@ -210,13 +210,13 @@ module _ (D : List ℕ → Dig) where
       ∷ first-memo s (changeForms A A′ old clearedRecord) (changeSays A A′ old clearedRecord y y′ ∷ []) m ∷ isRoot s y ∷ []
   needs s (ask q A A′ r y m) =
       isOpen s ∷ notZero q ∷ notZero A ∷ notZero A′ ∷ wellFormed r ∷ isOrInTheGap q A A′
-      ∷ first-memo s (leafForms A A′ r) (v1 (digest D (leafOf A A′ r)) y ∷ []) m ∷ isRoot s y ∷ []
+      ∷ first-memo s (leafForms A A′ r) (v1 (digestOf D (leafOf A A′ r)) y ∷ []) m ∷ isRoot s y ∷ []
   needs s (askNone q) = isOpen s ∷ notZero q ∷ isRoot s nought ∷ []
   needs s (unlock k) = isShut s ∷ isSecret k ∷ []
 
   -- the memoranda that a request carries: those that its checks compare
-  abbrev pub carried : Registers → Request → List Dig
-  carried s q = compared (needs s q)
+  abbrev pub carriedMemoranda : Registers → Request → List Dig
+  carriedMemoranda s q = compared (needs s q)
 
 -- ── the verdict: the first number of an order that applies ──
 
@@ -242,16 +242,16 @@ formedAt n cs = formsAll (those n cs)
 -- refused by a number, or passed; with the strings formed "in the order of the checks and no further than the
 -- check that refuses" (which strings, and how often: their order in the list says nothing)
 pub data Verdict : Type 0 where
-  refused : ℕ → List Str → Verdict
-  passed : List Str → Verdict
+  refusedBy : ℕ → List Str → Verdict
+  allPassed : List Str → Verdict
 
 abbrev pub formedBy : Verdict → List Str
-formedBy (refused n fs) = fs
-formedBy (passed fs) = fs
+formedBy (refusedBy n fs) = fs
+formedBy (allPassed fs) = fs
 
 abbrev pub judge : (numbers : List ℕ) → List Str → List Check → Verdict
-judge [] fs cs = passed fs
-judge (n ∷ ns) fs cs = pick (applies n cs) (refused n (formedAt n cs ++ fs)) (judge ns (formedAt n cs ++ fs) cs)
+judge [] fs cs = allPassed fs
+judge (n ∷ ns) fs cs = pick (applies n cs) (refusedBy n (formedAt n cs ++ fs)) (judge ns (formedAt n cs ++ fs) cs)
 
 -- ── what a verdict's number says ──
 

@@ -10,9 +10,9 @@ use lib.ListN.{length}
 use Rattle.paper.specs.declared.Record.{Record}
 use Rattle.paper.specs.declared.Registers.{Registers}
 use Rattle.paper.specs.declared.Values.{Values}
-use Rattle.paper.specs.Strings.{Dig, nought, u1, Str, digest, memorandum, memorandumForms, malformed, inGap}
+use Rattle.paper.specs.Strings.{Dig, nought, u1, Str, digestOf, memorandum, memorandumForms, malformed, inGap}
 use Rattle.paper.specs.Requests.{Request, join, first, place, adopt, setTo, clear, ask}
-use Rattle.paper.specs.Refusals.{Check, order, requestOrder, needs, carried, Verdict, formedBy, judge, numbersBefore, Passed}
+use Rattle.paper.specs.Refusals.{Check, order, requestOrder, needs, carriedMemoranda, Verdict, formedBy, judge, numbersBefore, Passed}
 use Rattle.paper.specs.Collisions.{Collision}
 use Rattle.paper.specs.Answers.{answer}
 use Rattle.paper.specs.Module.{refusalOf, checksOf}
@@ -45,10 +45,10 @@ module _ (D : List ℕ → Dig) where
         ⊎ Collision D (memorandumForms D (u1 y z w z′) (s .secret) ++ memorandumForms D (u1 y z y′ z′) (s .secret))
     -- "Reading an all-zero memorandum as "none given"": in every kind that carries one it gets 8 or 9 where nothing before 8
     -- applies, unless it is the digest of a string formed for the line
-    pub zero-given : (s : Registers) (q : Request) → List·Memᴰ nought (carried D s q)
+    pub zero-given : (s : Registers) (q : Request) → List·Memᴰ nought (carriedMemoranda D s q)
         → Passed (numbersBefore 8 requestOrder) (needs D s q)
         → ((refusalFor s q ≡ 8) ⊎ (refusalFor s q ≡ 9))
-        ⊎ ((x : Str) × List·Memᴰ x (formedBy (verdictOn s q)) × (digest D x ≡ nought))
+        ⊎ ((x : Str) × List·Memᴰ x (formedBy (verdictOn s q)) × (digestOf D x ≡ nought))
     -- "Checked in this order": 13 comes before 4
     pub shut-first : (s : Registers) → s .opened ≡ false → refusalFor s (first 0) ≡ 13
     -- the counter is of record changes: adopt leaves it

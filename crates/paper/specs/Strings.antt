@@ -32,7 +32,7 @@ pub data Str : Type 0 where
   leaf : (A A′ : ℕ) (ω : Dig) → Str
   node : (u v : Dig) → Str
   entry : (r : Record) → Str
-  memo : (m : Memo) (secret : Dig) → Str
+  memoString : (m : Memo) (secret : Dig) → Str
 
 -- the numbers of a record, in 01's order
 abbrev pub numbers : Record → List ℕ
@@ -56,36 +56,36 @@ abbrev pub tagOf : Str → ℕ
 tagOf (leaf A A′ ω) = 0x01
 tagOf (node u v) = 0x02
 tagOf (entry r) = 0x03
-tagOf (memo m k) = memoTag m
+tagOf (memoString m k) = memoTag m
 
 -- a field is a number or a digest
 pub data Field : Type 0 where
-  num : ℕ → Field
-  dig : Dig → Field
+  numberField : ℕ → Field
+  digestField : Dig → Field
   deriving Discrete as Field-discrete
 
 abbrev pub nums : List ℕ → List Field
 nums [] = []
-nums (n ∷ l) = num n ∷ nums l
+nums (n ∷ l) = numberField n ∷ nums l
 
 abbrev pub digs : List Dig → List Field
 digs [] = []
-digs (d ∷ l) = dig d ∷ digs l
+digs (d ∷ l) = digestField d ∷ digs l
 
 abbrev pub fieldsOf : Str → List Field
-fieldsOf (leaf A A′ ω) = num A ∷ num A′ ∷ dig ω ∷ []
-fieldsOf (node u v) = dig u ∷ dig v ∷ []
+fieldsOf (leaf A A′ ω) = numberField A ∷ numberField A′ ∷ digestField ω ∷ []
+fieldsOf (node u v) = digestField u ∷ digestField v ∷ []
 fieldsOf (entry r) = nums (numbers r)
-fieldsOf (memo m k) = digs (memoDigests m ++ (k ∷ []))
+fieldsOf (memoString m k) = digs (memoDigests m ++ (k ∷ []))
 
 -- "Numbers are 8 bytes, most significant first"; a digest is its 32 bytes
 abbrev pub fieldBytes : Field → List ℕ
-fieldBytes (num n) = be64 n
-fieldBytes (dig d) = d
+fieldBytes (numberField n) = be64 n
+fieldBytes (digestField d) = d
 
 abbrev pub widthOf : Field → ℕ
-widthOf (num n) = 8
-widthOf (dig d) = 32
+widthOf (numberField n) = 8
+widthOf (digestField d) = 32
 
 abbrev pub spread : List Field → List ℕ
 spread [] = []
@@ -104,16 +104,16 @@ lengthOf s = 1 + widths (fieldsOf s)
 
 -- numbers that 8 bytes hold, digests of 32 bytes: of such strings the bytes tell the string
 -- (`proofs/Encoding`, `enc-injective`), and they are as many as the length says (`enc-length`)
-abbrev pub Sound : Field → Type 0
-Sound (num n) = n < 2 ^ 64
-Sound (dig d) = length d ≡ 32
+abbrev pub FieldFits : Field → Type 0
+FieldFits (numberField n) = n < 2 ^ 64
+FieldFits (digestField d) = length d ≡ 32
 
-abbrev pub SoundAll : List Field → Type 0
-SoundAll [] = Unit {0}
-SoundAll (f ∷ l) = Sound f × SoundAll l
+abbrev pub FieldsFit : List Field → Type 0
+FieldsFit [] = Unit {0}
+FieldsFit (f ∷ l) = FieldFits f × FieldsFit l
 
-abbrev pub WellFormed : Str → Type 0
-WellFormed s = SoundAll (fieldsOf s)
+abbrev pub StringFits : Str → Type 0
+StringFits s = FieldsFit (fieldsOf s)
 
 -- ── counts ──
 
@@ -163,23 +163,23 @@ parentForms u v = pick (allZero v) [] (pick (allZero u) [] (node u v ∷ []))
 
 module _ (D : List ℕ → Dig) where
   -- the digest of a string
-  abbrev pub digest : Str → Dig
-  digest s = D (enc s)
+  abbrev pub digestOf : Str → Dig
+  digestOf s = D (enc s)
 
   -- how a memorandum is made of what it says and the secret, and the strings formed for it: here and nowhere else
   abbrev pub memorandum : Memo → (secret : Dig) → Dig
-  memorandum t k = digest (memo t k)
+  memorandum t k = digestOf (memoString t k)
 
   abbrev pub memorandumForms : Memo → (secret : Dig) → List Str
-  memorandumForms t k = memo t k ∷ []
+  memorandumForms t k = memoString t k ∷ []
 
   -- "Its hash is 0 if v1 is 0, else the digest"
   unfoldable pub recordHash : Record → Dig
-  recordHash r = pick (blank r) nought (digest (entry r))
+  recordHash r = pick (blank r) nought (digestOf (entry r))
 
   -- "The parent H(u,v) is u if v is 0, v if u is 0, else the digest of the node string"
   unfoldable pub H : (u v : Dig) → Dig
-  H u v = pick (allZero v) u (pick (allZero u) v (digest (node u v)))
+  H u v = pick (allZero v) u (pick (allZero u) v (digestOf (node u v)))
 
   -- "Path: siblings .. lowest first. Bit j of sides, lowest bit first, is 1 if sibling j stands on the left."
   -- One level up, from u with the sibling s and its bit

@@ -25,14 +25,14 @@ ghost use lib.Dec.{eqb};
 ghost use Rattle.seqs.specs.Choose.{either};
 ghost use Rattle.paper.specs.Strings as S;
 ghost use Rattle.paper.specs.Answers.{findingOf, findingBytes};
-ghost use Rattle.replies.specs.Outcomes.{outcome, acceptance};
+ghost use Rattle.replies.specs.Outcomes.{outcomeFor, acceptance};
 ghost use Rattle.checks.specs.Steps.{Concludes};
 ghost use Rattle.places.specs.Places.{requestAt};
 ghost use Rattle.question_kinds.specs.Questions.{askEnds};
 
 // 0f ask of none: q; the list is empty.
 pub fn ask_none(r: Registers, f: &[u8]) -> Outcome
-    ensures { λ o. ⌜ o ≡ outcome r 15 (requestAt 15 (now (f .entry))) ⌝ }
+    ensures { λ o. ⌜ o ≡ outcomeFor r 15 (requestAt 15 (now (f .entry))) ⌝ }
 {
     let q = item(f, 0);
     let none = [0u8; 32];
@@ -160,7 +160,7 @@ const ASK_DIGESTS: u16 = ASK_RECORD + RECORD;
 
 // 0e ask: q, A, A', record, y, m; q is A or in the gap of A and A'; answers what the leaf of A, A' and the record says of q.
 pub fn ask(r: Registers, f: &[u8]) -> Outcome
-    ensures { λ o. ⌜ o ≡ outcome r 14 (requestAt 14 (now (f .entry))) ⌝ }
+    ensures { λ o. ⌜ o ≡ outcomeFor r 14 (requestAt 14 (now (f .entry))) ⌝ }
 {
     let q = item(f, 0);
     let a = item(f, 1);

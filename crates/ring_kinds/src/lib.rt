@@ -19,13 +19,13 @@ use replies::Outcome;
 ghost use mathlib.Core.Path.{_≡_};
 ghost use Rattle.sha256.specs.Hash.{sha256};
 ghost use Rattle.paper.specs.Refusals.{first-memo, placeForms, placeSays};
-ghost use Rattle.replies.specs.Outcomes.{outcome};
-ghost use Rattle.checks.specs.Steps.{Next};
+ghost use Rattle.replies.specs.Outcomes.{outcomeFor};
+ghost use Rattle.checks.specs.Steps.{CheckMade};
 ghost use Rattle.places.specs.Places.{requestAt};
 
 // 06: x1, x2, y, y', m; m is U2(x1,x2,y,x2,x1,y'); answers EI(y,y').
 pub fn swap(r: Registers, f: &[u8]) -> Outcome
-    ensures { λ o. ⌜ o ≡ outcome r 6 (requestAt 6 (now (f .entry))) ⌝ }
+    ensures { λ o. ⌜ o ≡ outcomeFor r 6 (requestAt 6 (now (f .entry))) ⌝ }
 {
     let x1 = digest(f, FIELDS, 0);
     let x2 = digest(f, FIELDS, 1);
@@ -41,7 +41,7 @@ pub fn swap(r: Registers, f: &[u8]) -> Outcome
 
 // 07: A; answers EI(0,leaf(A,A,0)).
 pub fn first(r: Registers, f: &[u8]) -> Outcome
-    ensures { λ o. ⌜ o ≡ outcome r 7 (requestAt 7 (now (f .entry))) ⌝ }
+    ensures { λ o. ⌜ o ≡ outcomeFor r 7 (requestAt 7 (now (f .entry))) ⌝ }
 {
     let a = item(f, 0);
     let j = refuse_if(begin_open(r), 4, a.0 == 0);
@@ -67,7 +67,7 @@ fn place_memo(
     yn: [u8; 32],
     m: [u8; 32],
 ) -> Judged
-    ensures { λ k. ⌜ Next j (first-memo sha256 r (placeForms (a .0) (an .0) (bn .0) w)
+    ensures { λ k. ⌜ CheckMade j (first-memo sha256 r (placeForms (a .0) (an .0) (bn .0) w)
         (placeSays sha256 (a .0) (an .0) (bn .0) w y yn) m) k ⌝ }
 {
     if j.stopped {
@@ -95,7 +95,7 @@ const PLACE_DIGESTS: u16 = FIELDS + 3 * NUMBER;
 
 // 08: A, A', B', w, y, y', m; A' lies in the gap of A and B'; answers EI(y,y').
 pub fn place(r: Registers, f: &[u8]) -> Outcome
-    ensures { λ o. ⌜ o ≡ outcome r 8 (requestAt 8 (now (f .entry))) ⌝ }
+    ensures { λ o. ⌜ o ≡ outcomeFor r 8 (requestAt 8 (now (f .entry))) ⌝ }
 {
     let a = item(f, 0);
     let an = item(f, 1);
@@ -114,7 +114,7 @@ pub fn place(r: Registers, f: &[u8]) -> Outcome
 
 // 09: x, y, m; m is EI(x,y); answers EI(y,x).
 pub fn turn(r: Registers, f: &[u8]) -> Outcome
-    ensures { λ o. ⌜ o ≡ outcome r 9 (requestAt 9 (now (f .entry))) ⌝ }
+    ensures { λ o. ⌜ o ≡ outcomeFor r 9 (requestAt 9 (now (f .entry))) ⌝ }
 {
     let x = digest(f, FIELDS, 0);
     let y = digest(f, FIELDS, 1);
@@ -126,7 +126,7 @@ pub fn turn(r: Registers, f: &[u8]) -> Outcome
 
 // 0a: x, y, m1, z, m2; m1 is EI(x,y) and m2 is EI(y,z); answers EI(x,z).
 pub fn chain(r: Registers, f: &[u8]) -> Outcome
-    ensures { λ o. ⌜ o ≡ outcome r 10 (requestAt 10 (now (f .entry))) ⌝ }
+    ensures { λ o. ⌜ o ≡ outcomeFor r 10 (requestAt 10 (now (f .entry))) ⌝ }
 {
     let x = digest(f, FIELDS, 0);
     let y = digest(f, FIELDS, 1);

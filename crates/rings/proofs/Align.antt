@@ -7,8 +7,8 @@ use mathlib.Core.Logic.{_⊎_, inl, inr}
 use Prim.Native.Nat.{ℕ, _+_}
 use native.Mathlib.Omega.{arith}
 use Rattle.paper.specs.Strings.{Dig, nought, Str, node}
-use Rattle.rings.specs.Trees.{Leaf, points, Tree, empty, tip, branch, leaves, count}
-use Rattle.rings.specs.Meanings.{_∈_, Within, Sibling, left, right, above, NodeIn, fold, PathIn, fold-two, PathsIn, hashOfTree, TreeIn, Fault, vanishes}
+use Rattle.rings.specs.Trees.{TreeLeaf, points, Tree, empty, tip, branch, leaves, count}
+use Rattle.rings.specs.Meanings.{_∈_, Within, Sibling, leftSibling, rightSibling, above, NodeIn, fold, PathIn, fold-two, PathsIn, hashOfTree, TreeIn, Fault, vanishes}
 use Rattle.rings.proofs.Counting.{count-nil, count-append}
 use Rattle.rings.proofs.Nodes.{Dig-discrete, above-right-0, above-left-0, above-node, _>>=_, same-string, no-leaf}
 
@@ -16,14 +16,14 @@ module _ (D : Str → Dig) where
   -- ── one node ──
 
   -- the leaves L are those of halves l and r of hashes a and b
-  pub record Split (F : List Str) (a b : Dig) (L : List Leaf) : Type 0 where
+  pub record Split (F : List Str) (a b : Dig) (L : List TreeLeaf) : Type 0 where
     pub l : Tree
     pub r : Tree
     pub hash-l : hashOfTree D l ≡ a
     pub hash-r : hashOfTree D r ≡ b
     pub in-l : TreeIn D F l
     pub in-r : TreeIn D F r
-    pub cut : (x : Leaf) → count x L ≡ count x (leaves l) + count x (leaves r)
+    pub cut : (x : TreeLeaf) → count x L ≡ count x (leaves l) + count x (leaves r)
 
   -- a tree is, up to empty parts, such a node; where one half is empty, the other splits
   split-node : {F : List Str} (T : Tree) (a b : Dig) → node a b ∈ F → D (node a b) ≡ hashOfTree D T → TreeIn D F T
@@ -89,33 +89,33 @@ module _ (D : Str → Dig) where
 
   pub path-more : {F G : List Str} (p : List Sibling) (x : Dig) → Within F G → PathIn D F p x → PathIn D G p x
   path-more [] x s i = tt
-  path-more (left a ∷ p) x s i = (path-more p x s (i .0), λ n m. s (node a (fold D p x)) (i .1 n m))
-  path-more (right a ∷ p) x s i = (path-more p x s (i .0), λ n m. s (node (fold D p x) a) (i .1 n m))
+  path-more (leftSibling a ∷ p) x s i = (path-more p x s (i .0), λ n m. s (node a (fold D p x)) (i .1 n m))
+  path-more (rightSibling a ∷ p) x s i = (path-more p x s (i .0), λ n m. s (node (fold D p x) a) (i .1 n m))
 
   pub fold-append : (q p : List Sibling) (x : Dig) → fold D (q ++ p) x ≡ fold D q (fold D p x)
   fold-append [] p x = refl
-  fold-append (left s ∷ q) p x = ap (above D s) (fold-append q p x)
-  fold-append (right s ∷ q) p x = ap (λ (y : Dig). above D y s) (fold-append q p x)
+  fold-append (leftSibling s ∷ q) p x = ap (above D s) (fold-append q p x)
+  fold-append (rightSibling s ∷ q) p x = ap (λ (y : Dig). above D y s) (fold-append q p x)
 
   pub path-append : (F : List Str) (q p : List Sibling) (x : Dig) → PathIn D F q (fold D p x) → PathIn D F p x → PathIn D F (q ++ p) x
   path-append F [] p x i j = j
-  path-append F (left s ∷ q) p x i j = (path-append F q p x (i .0) j, rw (fold-append q p x) (i .1))
-  path-append F (right s ∷ q) p x i j = (path-append F q p x (i .0) j, rw (fold-append q p x) (i .1))
+  path-append F (leftSibling s ∷ q) p x i j = (path-append F q p x (i .0) j, rw (fold-append q p x) (i .1))
+  path-append F (rightSibling s ∷ q) p x i j = (path-append F q p x (i .0) j, rw (fold-append q p x) (i .1))
 
   -- a tree of hash y with given leaves
-  pub record Made (F : List Str) (y : Dig) (has : Leaf → ℕ) : Type 0 where
+  pub record Made (F : List Str) (y : Dig) (has : TreeLeaf → ℕ) : Type 0 where
     pub tree : Tree
     pub tree-hash : hashOfTree D tree ≡ y
     pub tree-in : TreeIn D F tree
-    pub holds : (z : Leaf) → count z (leaves tree) ≡ has z
+    pub holds : (z : TreeLeaf) → count z (leaves tree) ≡ has z
 
   -- T is a part of hash x under the path p, with the leaves `rest` beside it; another part may be put there
   pub record Hole (F : List Str) (p : List Sibling) (x : Dig) (T : Tree) : Type 0 where
     pub part : Tree
     pub part-hash : hashOfTree D part ≡ x
     pub part-in : TreeIn D F part
-    pub rest : List Leaf
-    pub cut : (z : Leaf) → count z (leaves T) ≡ count z (leaves part) + count z rest
+    pub rest : List TreeLeaf
+    pub cut : (z : TreeLeaf) → count z (leaves T) ≡ count z (leaves part) + count z rest
     pub fill : (Y : Tree) (y : Dig) → hashOfTree D Y ≡ y → TreeIn D F Y → PathIn D F p y
         → Made F (fold D p y) (λ z. count z (leaves Y) + count z rest)
 
@@ -131,7 +131,7 @@ module _ (D : Str → Dig) where
         fill = λ Y y eY iY jY.
             record { tree = Y; tree-hash = eY; tree-in = iY; holds = λ z. rw count-nil (omega arith) };
       })
-  align (left s ∷ p) x T e i j = do
+  align (leftSibling s ∷ p) x T e i j = do
     c ← split T s (fold D p x) (j .1) e i
     d ← align p x (c .r) (sym (c .hash-r)) (c .in-r) (j .0)
     inr (record {
@@ -149,7 +149,7 @@ module _ (D : Str → Dig) where
             holds = λ z. simp count-append (omega (arith, u .holds z));
           };
     })
-  align (right s ∷ p) x T e i j = do
+  align (rightSibling s ∷ p) x T e i j = do
     c ← split T (fold D p x) s (j .1) e i
     d ← align p x (c .l) (sym (c .hash-l)) (c .in-l) (j .0)
     inr (record {
@@ -187,8 +187,8 @@ module _ (D : Str → Dig) where
     pub hash₂ : hashOfTree D part₂ ≡ x₂
     pub in₁ : TreeIn D F part₁
     pub in₂ : TreeIn D F part₂
-    pub rest : List Leaf
-    pub cut : (z : Leaf) → count z (leaves T) ≡ count z (leaves part₁) + count z (leaves part₂) + count z rest
+    pub rest : List TreeLeaf
+    pub cut : (z : TreeLeaf) → count z (leaves T) ≡ count z (leaves part₁) + count z (leaves part₂) + count z rest
     pub fill : (Y₁ Y₂ : Tree) → hashOfTree D Y₁ ≡ x₁′ → hashOfTree D Y₂ ≡ x₂′ → TreeIn D F Y₁ → TreeIn D F Y₂
         → Made F y′ (λ z. count z (leaves Y₁) + count z (leaves Y₂) + count z rest)
 

@@ -1,5 +1,5 @@
 -- The theory's parent, hashes and records are paper's: for D any digest of bytes with 32 bytes, the theory is taken with
--- `digest D`. The theory's parent looks whether a digest is 0 and paper's whether its bytes are all 0, which for 32 bytes is
+-- `digestOf D`. The theory's parent looks whether a digest is 0 and paper's whether its bytes are all 0, which for 32 bytes is
 -- the same.
 use mathlib.Core.Bool.{Bool, true, false, true≢false}
 use mathlib.Core.Path.{_≡_, refl, sym, ap, _∙_}
@@ -13,9 +13,9 @@ use lib.ListN.{length, replicate}
 use Rattle.seqs.specs.Choose.{pick, both, opposite, both-true}
 use Rattle.seqs.specs.Bytes.{allZero}
 use Rattle.paper.specs.declared.Record.{Record}
-use Rattle.paper.specs.Strings.{Dig, nought, emptyRecord, Str, entry, node, enc, numbers, blank, malformed, recordForms, parentForms, digest, recordHash, H}
+use Rattle.paper.specs.Strings.{Dig, nought, emptyRecord, Str, entry, node, enc, numbers, blank, malformed, recordForms, parentForms, digestOf, recordHash, H}
 use Rattle.rings.specs.Trees.{points, Tree, empty, tip, branch, hashOf}
-use Rattle.rings.specs.Meanings.{Within, above, NodeIn, hashOfTree, Known, known-empty, known-recorded}
+use Rattle.rings.specs.Meanings.{Within, above, NodeIn, hashOfTree, RecordKnown, known-empty, known-recorded}
 use Rattle.rings.proofs.Nodes.{Dig-discrete, above-right-0, above-left-0, above-node}
 
 -- ── a digest that is 0 ──
@@ -65,18 +65,18 @@ all-0 r h =
     }
 
 -- a record that check 5 passes is known where its string is formed
-pub known-by : (D : Str → Dig) (F : List Str) (r : Record) → malformed r ≡ false → Within (recordForms r) F → Known D F r
+pub known-by : (D : Str → Dig) (F : List Str) (r : Record) → malformed r ≡ false → Within (recordForms r) F → RecordKnown D F r
 unfolding malformed recordForms
 known-by D F r = go (blank r) (allZero (numbers r)) refl refl
   where
     go : (b z : Bool) → blank r ≡ b → allZero (numbers r) ≡ z → both b (opposite z) ≡ false
-        → Within (pick b [] (entry r ∷ [])) F → Known D F r
+        → Within (pick b [] (entry r ∷ [])) F → RecordKnown D F r
     go true true e f h s = known-empty (all-0 r f)
     go true false e f h s = absurd (true≢false h)
     go false z e f h s = known-recorded (eqb-false (r .revision .0) 0 e) (s (entry r) (List·Memᴰ·head refl))
 
 -- and a known record passes it
-pub known-passes : (D : Str → Dig) (F : List Str) (r : Record) → Known D F r → malformed r ≡ false
+pub known-passes : (D : Str → Dig) (F : List Str) (r : Record) → RecordKnown D F r → malformed r ≡ false
 unfolding malformed
 known-passes D F r (known-empty e) = ap malformed e
 known-passes D F r (known-recorded n m) = rw (ne-eqb (r .revision .0) 0 n) refl
@@ -92,17 +92,17 @@ node-in D F u v eu ev s n m =
     s (node u v) (rw (zv, zu) (List·Memᴰ·head refl))
 
 module _ (D : List ℕ → Dig) where
-  pub parent-is : (u v : Dig) → length u ≡ 32 → length v ≡ 32 → H D u v ≡ above (digest D) u v
+  pub parent-is : (u v : Dig) → length u ≡ 32 → length v ≡ 32 → H D u v ≡ above (digestOf D) u v
   unfolding H
   parent-is u v eu ev = go (Dig-discrete v nought) (Dig-discrete u nought)
     where
       go : Dec (v ≡ nought) → Dec (u ≡ nought)
-          → pick (allZero v) u (pick (allZero u) v (digest D (node u v))) ≡ above (digest D) u v
-      go (yes q) d = rw (nought-is-zero v q) (sym (above-right-0 (digest D) u v q))
+          → pick (allZero v) u (pick (allZero u) v (digestOf D (node u v))) ≡ above (digestOf D) u v
+      go (yes q) d = rw (nought-is-zero v q) (sym (above-right-0 (digestOf D) u v q))
       go (no n) (yes p) =
-          rw (other-than-nought v ev n, nought-is-zero u p) (sym (above-left-0 (digest D) u v p))
+          rw (other-than-nought v ev n, nought-is-zero u p) (sym (above-left-0 (digestOf D) u v p))
       go (no n) (no m) =
-          rw (other-than-nought v ev n, other-than-nought u eu m) (sym (above-node (digest D) u v m n))
+          rw (other-than-nought v ev n, other-than-nought u eu m) (sym (above-node (digestOf D) u v m n))
 
   -- ── widths, where every digest has 32 bytes ──
 
@@ -113,13 +113,13 @@ module _ (D : List ℕ → Dig) where
 
     pub record-32 : (r : Record) → length (recordHash D r) ≡ 32
     unfolding recordHash
-    record-32 r = pick-32 (blank r) nought (digest D (entry r)) refl (D32 (enc (entry r)))
+    record-32 r = pick-32 (blank r) nought (digestOf D (entry r)) refl (D32 (enc (entry r)))
 
     pub parent-32 : (u v : Dig) → length u ≡ 32 → length v ≡ 32 → length (H D u v) ≡ 32
     unfolding H
     parent-32 u v h k =
-        pick-32 (allZero v) u (pick (allZero u) v (digest D (node u v))) h
-        (pick-32 (allZero u) v (digest D (node u v)) k (D32 (enc (node u v))))
+        pick-32 (allZero v) u (pick (allZero u) v (digestOf D (node u v))) h
+        (pick-32 (allZero u) v (digestOf D (node u v)) k (D32 (enc (node u v))))
 
     hash-32 : (T : Tree) → length (hashOf D T) ≡ 32
     hash-32 empty = refl
@@ -127,8 +127,8 @@ module _ (D : List ℕ → Dig) where
     hash-32 (branch l r) = parent-32 (hashOf D l) (hashOf D r) (hash-32 l) (hash-32 r)
 
     -- the hash of a tree
-    pub hash-is : (T : Tree) → hashOf D T ≡ hashOfTree (digest D) T
+    pub hash-is : (T : Tree) → hashOf D T ≡ hashOfTree (digestOf D) T
     hash-is empty = refl
     hash-is (tip (points a b w)) = refl
     hash-is (branch l r) =
-        parent-is (hashOf D l) (hashOf D r) (hash-32 l) (hash-32 r) ∙ (λ i. above (digest D) (hash-is l i) (hash-is r i))
+        parent-is (hashOf D l) (hashOf D r) (hash-32 l) (hash-32 r) ∙ (λ i. above (digestOf D) (hash-is l i) (hash-is r i))

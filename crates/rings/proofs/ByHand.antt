@@ -3,7 +3,7 @@
 use mathlib.Core.Path.{_≡_, refl}
 use mathlib.Core.List.{List, [], _∷_}
 use Prim.Native.Nat.{ℕ}
-use Rattle.paper.specs.Strings.{Dig, nought, leaf, digest, H}
+use Rattle.paper.specs.Strings.{Dig, nought, leaf, digestOf, H}
 use Rattle.rings.specs.Trees.{points, empty, tip, branch, leaves, hashOf}
 use Rattle.rings.specs.Lists.{ListItem, itemWith, insert, remove, putRecord, ring}
 
@@ -42,7 +42,7 @@ module _ (D : List ℕ → Dig) (ω ω′ : Dig) where
   leaves-of-two = refl
 
   pub hash-of-two : hashOf D (branch (tip (points 432 562 ω)) (tip (points 562 432 ω′)))
-      ≡ H D (digest D (leaf 432 562 ω)) (digest D (leaf 562 432 ω′))
+      ≡ H D (digestOf D (leaf 432 562 ω)) (digestOf D (leaf 562 432 ω′))
   hash-of-two = refl
 
   pub hash-of-none : hashOf D empty ≡ nought

@@ -3,13 +3,13 @@
 use mathlib.Core.List.{List}
 use mathlib.Core.Logic.{_⊎_, inl, inr}
 use Prim.Native.Nat.{ℕ}
-use Rattle.paper.specs.Strings.{Dig, Str, WellFormed, digest}
+use Rattle.paper.specs.Strings.{Dig, Str, StringFits, digestOf}
 use Rattle.paper.specs.Collisions.{Collision}
 use Rattle.paper.proofs.Encoding.{enc-injective}
 use Rattle.rings.specs.Endings.{ZeroDigest}
 use Rattle.rings.specs.Meanings.{_∈_, Fault, collides, vanishes}
 
-pub fault-shows : {D : List ℕ → Dig} {F : List Str} → ((s : Str) → s ∈ F → WellFormed s) → Fault (digest D) F
+pub fault-shows : {D : List ℕ → Dig} {F : List Str} → ((s : Str) → s ∈ F → StringFits s) → Fault (digestOf D) F
     → Collision D F ⊎ ZeroDigest D F
 fault-shows w (collides s t i j n e) =
     inl (record {

@@ -7,13 +7,13 @@ use Prim.Native.Nat.{ℕ, _≤_, _<_}
 use native.Mathlib.Decide.{decLt}
 use native.Mathlib.Omega.{arith}
 use Rattle.paper.specs.Strings.{Dig}
-use Rattle.rings.specs.Trees.{Leaf, points, count}
+use Rattle.rings.specs.Trees.{TreeLeaf, points, count}
 use Rattle.rings.specs.Lists.{ListItem, itemWith, Ascending, OnList, Unlisted, chainOf, ring}
 use Rattle.rings.proofs.Counting.{count-head, count-tail}
 use Rattle.rings.proofs.Gaps.{Gap, between, beyond, before}
 
 -- a leaf of L in whose gap q lies
-pub record Spot (q : ℕ) (L : List Leaf) : Type 0 where
+pub record Spot (q : ℕ) (L : List TreeLeaf) : Type 0 where
   pub a : ℕ
   pub b : ℕ
   pub w : Dig
@@ -21,7 +21,7 @@ pub record Spot (q : ℕ) (L : List Leaf) : Type 0 where
   pub on : 0 < count (points a b w) L
 
 -- the leaf of item q, whose hash is v, and the leaf that leads to it
-pub record Near (q : ℕ) (v : Dig) (L : List Leaf) : Type 0 where
+pub record Near (q : ℕ) (v : Dig) (L : List TreeLeaf) : Type 0 where
   pub a : ℕ
   pub b : ℕ
   pub w : Dig
@@ -29,7 +29,7 @@ pub record Near (q : ℕ) (v : Dig) (L : List Leaf) : Type 0 where
   pub on : 0 < count (points a q w) L
   pub next : 0 < count (points q b v) L
 
-spot-behind : {q : ℕ} {L : List Leaf} (x : Leaf) → Spot q L → Spot q (x ∷ L)
+spot-behind : {q : ℕ} {L : List TreeLeaf} (x : TreeLeaf) → Spot q L → Spot q (x ∷ L)
 spot-behind x t =
     record {
       a = t .a;
@@ -39,7 +39,7 @@ spot-behind x t =
       on = count-tail _ _ _ (t .on);
     }
 
-near-behind : {q : ℕ} {v : Dig} {L : List Leaf} (x : Leaf) → Near q v L → Near q v (x ∷ L)
+near-behind : {q : ℕ} {v : Dig} {L : List TreeLeaf} (x : TreeLeaf) → Near q v L → Near q v (x ∷ L)
 near-behind x t =
     record {
       a = t .a;

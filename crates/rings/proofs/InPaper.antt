@@ -8,12 +8,12 @@ use mathlib.Core.Logic.{_⊎_, inl, inr}
 use Prim.Native.Nat.{ℕ}
 use lib.ListN.{length}
 use Rattle.paper.specs.declared.Record.{Record}
-use Rattle.paper.specs.Strings.{Dig, nought, Str, leaf, malformed, inGap, recordForms, parentForms, digest, recordHash, H}
+use Rattle.paper.specs.Strings.{Dig, nought, Str, leaf, malformed, inGap, recordForms, parentForms, digestOf, recordHash, H}
 use Rattle.paper.specs.Refusals.{placeForms, leafOf, leafForms, changeForms}
 use Rattle.rings.specs.Trees.{points, Tree, leaves, hashOf, Permuted}
 use Rattle.rings.specs.Lists.{ListItem, OnList, Unlisted, ring}
 use Rattle.rings.specs.Changes.{Step, removal}
-use Rattle.rings.specs.Meanings.{_∈_, Within, MeansU1, MeansV1, MeansU2, hashRecord, Known, StandsFor, Fault, Moved, MeansEI}
+use Rattle.rings.specs.Meanings.{_∈_, Within, MeansU1, MeansV1, MeansU2, hashRecord, RecordKnown, StandsFor, Fault, Moved, MeansEI}
 use Rattle.rings.proofs.Nodes.{_>>=_}
 use Rattle.rings.proofs.Gaps.{gap-holds}
 use Rattle.rings.proofs.TreeKinds as T
@@ -25,7 +25,7 @@ use Rattle.rings.proofs.Bridge.{known-by, node-in, parent-is, hash-is}
 module _ (D : List ℕ → Dig) (D32 : (l : List ℕ) → length (D l) ≡ 32) (F : List Str) where
   -- the digest of strings that the theory is taken with
   abbrev digestD : Str → Dig
-  digestD = digest D
+  digestD = digestOf D
 
   -- what demand 3 says of the tree
   pub holds-ring : {T : Tree} {ls : List (ListItem Record)} → StandsFor digestD F T ls → Permuted (leaves T) (ring (recordHash D) ls)
@@ -65,7 +65,7 @@ module _ (D : List ℕ → Dig) (D32 : (l : List ℕ) → length (D l) ≡ 32) (
   adopt T ls m e g = m .forth F (λ s i. i) T ls (sym (hash-is D D32 T) ∙ e) g
 
   -- a leaf's strings: the record is known and the leaf formed
-  known : (A A′ : ℕ) (r : Record) → malformed r ≡ false → Within (leafForms D A A′ r) F → Known digestD F r
+  known : (A A′ : ℕ) (r : Record) → malformed r ≡ false → Within (leafForms D A A′ r) F → RecordKnown digestD F r
   known A A′ r w i = known-by digestD F r w (λ s m. i s (Memᴰ·append-left _ m))
 
   formed : (A A′ : ℕ) (r : Record) → Within (leafForms D A A′ r) F → leafOf D A A′ r ∈ F

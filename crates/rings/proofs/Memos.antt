@@ -5,11 +5,11 @@ use mathlib.Core.List.{List, List·Memᴰ·head}
 use mathlib.Core.Logic.{_⊎_, inr}
 use Prim.Native.Nat.{ℕ}
 use Rattle.paper.specs.declared.Record.{Record}
-use Rattle.paper.specs.Strings.{Dig, Memo, u1, v1, u2, ei, Str, digest, memorandum, memorandumForms}
+use Rattle.paper.specs.Strings.{Dig, Memo, u1, v1, u2, ei, Str, digestOf, memorandum, memorandumForms}
 use Rattle.rings.specs.Trees.{Tree}
 use Rattle.rings.specs.Lists.{ListItem}
 use Rattle.rings.specs.Changes.{Step}
-use Rattle.rings.specs.Meanings.{Within, Known, StandsFor, Means, Fault}
+use Rattle.rings.specs.Meanings.{Within, RecordKnown, StandsFor, Means, Fault}
 use Rattle.rings.proofs.Nodes.{_>>=_, same-string, tree-more}
 use Rattle.rings.proofs.Align.{path-more, paths-more}
 use Rattle.rings.proofs.Items.{all-more}
@@ -21,7 +21,7 @@ module _ (D : Str → Dig) where
       record {
         tree-in = tree-more D T s (g .tree-in);
         ascending = g .ascending;
-        known = all-more (Known D F) (Known D G) ls (λ r k. known-more D r s k) (g .known);
+        known = all-more (RecordKnown D F) (RecordKnown D G) ls (λ r k. known-more D r s k) (g .known);
         permuted = g .permuted;
       }
 
@@ -53,7 +53,7 @@ module _ (D : Str → Dig) where
 
 -- two memoranda that are equal as bytes say the same with the same secret, or among their strings a fault can be shown
 pub same-memorandum : (D : List ℕ → Dig) {F : List Str} (t u : Memo) (k l : Dig) → Within (memorandumForms D t k) F
-    → Within (memorandumForms D u l) F → memorandum D t k ≡ memorandum D u l → Fault (digest D) F ⊎ ((t ≡ u) × (k ≡ l))
+    → Within (memorandumForms D u l) F → memorandum D t k ≡ memorandum D u l → Fault (digestOf D) F ⊎ ((t ≡ u) × (k ≡ l))
 same-memorandum D t u k l i j e = do
-  p ← same-string (digest D) (i _ (List·Memᴰ·head refl)) (j _ (List·Memᴰ·head refl)) e
+  p ← same-string (digestOf D) (i _ (List·Memᴰ·head refl)) (j _ (List·Memᴰ·head refl)) e
   inr (cc, cc)

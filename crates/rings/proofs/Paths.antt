@@ -7,8 +7,8 @@ use Prim.Native.Nat.{ℕ, _/_, _%_}
 use lib.Dec.{eqb}
 use lib.ListN.{length}
 use Rattle.seqs.specs.Choose.{pick}
-use Rattle.paper.specs.Strings.{Dig, Str, parentForms, digest, H, up, upForms, foldUp, foldForms}
-use Rattle.rings.specs.Meanings.{Within, Sibling, left, right, fold, PathIn, MeansU1}
+use Rattle.paper.specs.Strings.{Dig, Str, parentForms, digestOf, H, up, upForms, foldUp, foldForms}
+use Rattle.rings.specs.Meanings.{Within, Sibling, leftSibling, rightSibling, fold, PathIn, MeansU1}
 use Rattle.rings.proofs.Align.{fold-append, path-append}
 use Rattle.rings.proofs.Bridge.{node-in, parent-is, parent-32}
 
@@ -16,7 +16,7 @@ use Rattle.rings.proofs.Bridge.{node-in, parent-is, parent-32}
 
 -- "Bit j of sides, lowest bit first, is 1 if sibling j stands on the left"
 abbrev sibling : (bit : ℕ) → Dig → Sibling
-sibling bit s = pick (eqb bit 1) (left s) (right s)
+sibling bit s = pick (eqb bit 1) (leftSibling s) (rightSibling s)
 
 abbrev lowestFirst : (sides : ℕ) → List Dig → List Sibling
 lowestFirst sides [] = []
@@ -50,7 +50,7 @@ module _ (D : Str → Dig) where
 module _ (D : List ℕ → Dig) (D32 : (l : List ℕ) → length (D l) ≡ 32) where
   -- one level
   level-is : (b : Bool) (s x : Dig) → length s ≡ 32 → length x ≡ 32
-      → pick b (H D s x) (H D x s) ≡ over (digest D) (pick b (left s) (right s)) x
+      → pick b (H D s x) (H D x s) ≡ over (digestOf D) (pick b (leftSibling s) (rightSibling s)) x
   level-is true s x hs hx = parent-is D s x hs hx
   level-is false s x hs hx = parent-is D x s hx hs
 
@@ -59,9 +59,9 @@ module _ (D : List ℕ → Dig) (D32 : (l : List ℕ) → length (D l) ≡ 32) w
   level-32 false s x hs hx = parent-32 D D32 x s hx hs
 
   level-in : (F : List Str) (b : Bool) (s x : Dig) → length s ≡ 32 → length x ≡ 32
-      → Within (pick b (parentForms s x) (parentForms x s)) F → PathIn (digest D) F (pick b (left s) (right s) ∷ []) x
-  level-in F true s x hs hx i = (tt, node-in (digest D) F s x hs hx i)
-  level-in F false s x hs hx i = (tt, node-in (digest D) F x s hx hs i)
+      → Within (pick b (parentForms s x) (parentForms x s)) F → PathIn (digestOf D) F (pick b (leftSibling s) (rightSibling s) ∷ []) x
+  level-in F true s x hs hx i = (tt, node-in (digestOf D) F s x hs hx i)
+  level-in F false s x hs hx i = (tt, node-in (digestOf D) F x s hx hs i)
 
   pub fold-up-32 : (x : Dig) (sides : ℕ) (l : List Dig) → length x ≡ 32 → AllWide l → length (foldUp D x sides l) ≡ 32
   fold-up-32 x sides [] hx hl = hx
@@ -69,15 +69,15 @@ module _ (D : List ℕ → Dig) (D32 : (l : List ℕ) → length (D l) ≡ 32) w
       fold-up-32 (up D x s (sides % 2)) (sides / 2) l (level-32 (eqb (sides % 2) 1) s x (hl .0) hx) (hl .1)
 
   fold-up-is : (x : Dig) (sides : ℕ) (l : List Dig) → length x ≡ 32 → AllWide l
-      → foldUp D x sides l ≡ rise (digest D) (lowestFirst sides l) x
+      → foldUp D x sides l ≡ rise (digestOf D) (lowestFirst sides l) x
   fold-up-is x sides [] hx hl = refl
   fold-up-is x sides (s ∷ l) hx hl =
       let b = eqb (sides % 2) 1 in
       fold-up-is (up D x s (sides % 2)) (sides / 2) l (level-32 b s x (hl .0) hx) (hl .1)
-      ∙ ap (rise (digest D) (lowestFirst (sides / 2) l)) (level-is b s x (hl .0) hx)
+      ∙ ap (rise (digestOf D) (lowestFirst (sides / 2) l)) (level-is b s x (hl .0) hx)
 
   fold-forms-in : (F : List Str) (x : Dig) (sides : ℕ) (l : List Dig) → length x ≡ 32 → AllWide l
-      → Within (foldForms D x sides l) F → PathIn (digest D) F (topFirst (lowestFirst sides l)) x
+      → Within (foldForms D x sides l) F → PathIn (digestOf D) F (topFirst (lowestFirst sides l)) x
   fold-forms-in F x sides [] hx hl i = tt
   fold-forms-in F x sides (s ∷ l) hx hl i =
       let b = eqb (sides % 2) 1 in
@@ -85,21 +85,21 @@ module _ (D : List ℕ → Dig) (D32 : (l : List ℕ) → length (D l) ≡ 32) w
       let p = topFirst (lowestFirst (sides / 2) l) in
       let rest = fold-forms-in F (up D x s (sides % 2)) (sides / 2) l (level-32 b s x (hl .0) hx) (hl .1)
       (λ t m. i t (Memᴰ·append-right forms m)) in
-      path-append (digest D) F p (sibling (sides % 2) s ∷ []) x
-      (subst (PathIn (digest D) F p) (level-is b s x (hl .0) hx) rest)
+      path-append (digestOf D) F p (sibling (sides % 2) s ∷ []) x
+      (subst (PathIn (digestOf D) F p) (level-is b s x (hl .0) hx) rest)
       (level-in F b s x (hl .0) hx (λ t m. i t (Memᴰ·append-left _ m)))
 
   -- ── 01 path ──
 
   pub path : (F : List Str) (x x′ : Dig) (sides : ℕ) (l : List Dig) → length x ≡ 32 → length x′ ≡ 32 → AllWide l
       → Within (foldForms D x sides l) F → Within (foldForms D x′ sides l) F
-      → MeansU1 (digest D) F x (foldUp D x sides l) x′ (foldUp D x′ sides l)
+      → MeansU1 (digestOf D) F x (foldUp D x sides l) x′ (foldUp D x′ sides l)
   path F x x′ sides l hx hx′ hl i i′ =
       let p = lowestFirst sides l in
       record {
         path = topFirst p;
-        up = rise-fold (digest D) p x ∙ sym (fold-up-is x sides l hx hl);
-        up′ = rise-fold (digest D) p x′ ∙ sym (fold-up-is x′ sides l hx′ hl);
+        up = rise-fold (digestOf D) p x ∙ sym (fold-up-is x sides l hx hl);
+        up′ = rise-fold (digestOf D) p x′ ∙ sym (fold-up-is x′ sides l hx′ hl);
         on = fold-forms-in F x sides l hx hl i;
         on′ = fold-forms-in F x′ sides l hx′ hl i′;
       }

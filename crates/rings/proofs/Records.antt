@@ -5,7 +5,7 @@ use mathlib.Core.Logic.{_⊎_, inl, inr, _≢_}
 use borrow.Author.Tests.{ne-eqb}
 use Rattle.paper.specs.declared.Record.{Record}
 use Rattle.paper.specs.Strings.{Dig, nought, emptyRecord, Str, entry}
-use Rattle.rings.specs.Meanings.{Within, hashRecord, Known, known-empty, known-recorded, Fault, vanishes}
+use Rattle.rings.specs.Meanings.{Within, hashRecord, RecordKnown, known-empty, known-recorded, Fault, vanishes}
 use Rattle.rings.proofs.Nodes.{_>>=_, same-string}
 
 module _ (D : Str → Dig) where
@@ -17,11 +17,12 @@ module _ (D : Str → Dig) where
   unfolding hashRecord
   hash-recorded r n = rw (ne-eqb (r .revision .0) 0 n) refl
 
-  pub known-more : {F G : List Str} (r : Record) → Within F G → Known D F r → Known D G r
+  pub known-more : {F G : List Str} (r : Record) → Within F G → RecordKnown D F r → RecordKnown D G r
   known-more r s (known-empty e) = known-empty e
   known-more r s (known-recorded n m) = known-recorded n (s (entry r) m)
 
-  pub same-record : {F : List Str} (r s : Record) → Known D F r → Known D F s → hashRecord D r ≡ hashRecord D s → Fault D F ⊎ (r ≡ s)
+  pub same-record : {F : List Str} (r s : Record) → RecordKnown D F r → RecordKnown D F s → hashRecord D r ≡ hashRecord D s
+      → Fault D F ⊎ (r ≡ s)
   same-record r s (known-empty p) (known-empty q) e = inr (p ∙ sym q)
   same-record r s (known-empty p) (known-recorded n m) e =
       inl (vanishes (entry s) m (sym (hash-recorded s n) ∙ sym e ∙ ap (hashRecord D) p ∙ hash-empty))
@@ -32,5 +33,5 @@ module _ (D : Str → Dig) where
     inr (cc)
 
   -- a record whose hash is 0 is the empty one
-  pub no-record : {F : List Str} (r : Record) → Known D F r → hashRecord D r ≡ nought → Fault D F ⊎ (r ≡ emptyRecord)
+  pub no-record : {F : List Str} (r : Record) → RecordKnown D F r → hashRecord D r ≡ nought → Fault D F ⊎ (r ≡ emptyRecord)
   no-record r k e = same-record r emptyRecord k (known-empty refl) (e ∙ sym hash-empty)

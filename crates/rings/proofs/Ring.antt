@@ -5,7 +5,7 @@ use mathlib.Core.Logic.{_⊎_, inl, inr, _≢_}
 use Prim.Native.Nat.{ℕ, _+_, _≤_, _<_}
 use native.Mathlib.Omega.{arith}
 use Rattle.paper.specs.Strings.{Dig}
-use Rattle.rings.specs.Trees.{Leaf, points, one, count}
+use Rattle.rings.specs.Trees.{TreeLeaf, points, one, count}
 use Rattle.rings.specs.Lists.{ListItem, itemWith, Ascending, OnList, Unlisted, chainOf, ring}
 use Rattle.rings.proofs.Counting.{count-nil, count-cons, count-cases, count-single}
 use Rattle.rings.proofs.Gaps.{Gap, between, beyond, before}
@@ -83,7 +83,7 @@ module _ {R : Type 0} (h : R → Dig) where
 
   -- another number for the last leaf to lead to
   pub rewrap : (A : ℕ) (w : Dig) (a : ℕ) (r : R) (l : List (ListItem R)) (z z′ : ℕ) → z ≤ a → Ascending a l
-      → 0 < count (points A z w) (chainOf h a r l z) → (x : Leaf)
+      → 0 < count (points A z w) (chainOf h a r l z) → (x : TreeLeaf)
       → count x (chainOf h a r l z) + one x (points A z′ w) ≡ count x (chainOf h a r l z′) + one x (points A z w)
   rewrap A w a r [] z z′ hz g m x =
       let e = count-single _ _ m in

@@ -10,25 +10,25 @@ use borrow.Author.Tests.{ltb-true, ltb-false, eqb-true, eqb-false}
 use lib.Dec.{eqb, ltb}
 use Rattle.seqs.specs.Choose.{pick}
 use Rattle.paper.specs.Strings.{Dig}
-use Rattle.rings.specs.Trees.{Leaf, points, one, count}
+use Rattle.rings.specs.Trees.{TreeLeaf, points, one, count}
 use Rattle.rings.specs.Lists.{ListItem, itemWith, Ascending, Unlisted, insert, remove, putRecord, chainOf, ring}
 use Rattle.rings.proofs.Counting.{count-nil, count-cons, count-cases, count-single}
 use Rattle.rings.proofs.Gaps.{Gap, between, beyond, before}
 use Rattle.rings.proofs.Ring.{bounds, unlisted-in, rewrap}
 
 -- The leaves L with item q are the leaves M without it, but for (A, q, w) and (q, B, v) in the place of (A, B, w); counted at x.
-abbrev Bypass : (q A B : ℕ) (w v : Dig) (x : Leaf) (L M : List Leaf) → Type 0
+abbrev Bypass : (q A B : ℕ) (w v : Dig) (x : TreeLeaf) (L M : List TreeLeaf) → Type 0
 Bypass q A B w v x L M = count x L + one x (points A B w) ≡ count x M + one x (points A q w) + one x (points q B v)
 
 -- The leaves L are the leaves M, but for (A, B, w′) in the place of (A, B, w).
-abbrev Rehash : (A B : ℕ) (w w′ : Dig) (x : Leaf) (L M : List Leaf) → Type 0
+abbrev Rehash : (A B : ℕ) (w w′ : Dig) (x : TreeLeaf) (L M : List TreeLeaf) → Type 0
 Rehash A B w w′ x L M = count x L + one x (points A B w) ≡ count x M + one x (points A B w′)
 
 module _ {R : Type 0} (h : R → Dig) where
   -- ── removing an item: its leaf goes, and the leaf before it leads on ──
 
   remove-chain : (q A B : ℕ) (w v : Dig) (a : ℕ) (r : R) (l : List (ListItem R)) (z : ℕ) → z ≤ a → Ascending a l → a < q
-      → 0 < count (points A q w) (chainOf h a r l z) → 0 < count (points q B v) (chainOf h a r l z) → (x : Leaf)
+      → 0 < count (points A q w) (chainOf h a r l z) → 0 < count (points q B v) (chainOf h a r l z) → (x : TreeLeaf)
       → Bypass q A B w v x (chainOf h a r l z) (chainOf h a r (remove q l) z)
   unfolding remove
   remove-chain q A B w v a r [] z hz g hq m m′ x =
@@ -73,7 +73,7 @@ module _ {R : Type 0} (h : R → Dig) where
           (omega (arith, f (omega (arith, eqb-false q b i, (bounds h q B v b s l z (g .1) t′) .0)) t t′))
 
   pub remove-ring : (q A B : ℕ) (w v : Dig) (ls : List (ListItem R)) → Ascending 0 ls → A ≢ q → 0 < count (points A q w) (ring h ls)
-      → 0 < count (points q B v) (ring h ls) → (x : Leaf) → Bypass q A B w v x (ring h ls) (ring h (remove q ls))
+      → 0 < count (points q B v) (ring h ls) → (x : TreeLeaf) → Bypass q A B w v x (ring h ls) (ring h (remove q ls))
   unfolding remove
   remove-ring q A B w v [] g n m m′ x = absurd (omega (arith, count-nil (points A q w)))
   remove-ring q A B w v (itemWith a r ∷ l) g n m m′ x = go (eqb q a) refl
@@ -104,7 +104,7 @@ module _ {R : Type 0} (h : R → Dig) where
   -- ── putting a record: one leaf has another hash ──
 
   put-head : (A B : ℕ) (w : Dig) (r : R) (a : ℕ) (s : R) (l : List (ListItem R)) (z : ℕ) → A ≡ a → Ascending a l
-      → 0 < count (points A B w) (chainOf h a s l z) → (x : Leaf)
+      → 0 < count (points A B w) (chainOf h a s l z) → (x : TreeLeaf)
       → Rehash A B w (h r) x (chainOf h a r l z) (chainOf h a s l z)
   put-head A B w r a s [] z p g m x =
       let e = count-single _ _ m in
@@ -119,7 +119,7 @@ module _ {R : Type 0} (h : R → Dig) where
       ]
 
   put-tail : (A B : ℕ) (w : Dig) (r : R) (a : ℕ) (s : R) (l : List (ListItem R)) (z : ℕ) → A ≢ a → Ascending a l
-      → 0 < count (points A B w) (chainOf h a s l z) → (x : Leaf)
+      → 0 < count (points A B w) (chainOf h a s l z) → (x : TreeLeaf)
       → Rehash A B w (h r) x (chainOf h a s (putRecord A r l) z) (chainOf h a s l z)
   unfolding putRecord
   put-tail A B w r a s [] z n g m x = let e = count-single _ _ m in absurd (n (cc))
@@ -136,7 +136,7 @@ module _ {R : Type 0} (h : R → Dig) where
       go false i (inr u) f = simp count-cons (omega (arith, f (eqb-false A b i) u))
 
   pub put-ring : (A B : ℕ) (w : Dig) (r : R) (ls : List (ListItem R)) → Ascending 0 ls → 0 < count (points A B w) (ring h ls)
-      → (x : Leaf) → Rehash A B w (h r) x (ring h (putRecord A r ls)) (ring h ls)
+      → (x : TreeLeaf) → Rehash A B w (h r) x (ring h (putRecord A r ls)) (ring h ls)
   unfolding putRecord
   put-ring A B w r [] g m x = absurd (omega (arith, count-nil (points A B w)))
   put-ring A B w r (itemWith a s ∷ l) g m x = go (eqb A a) refl
@@ -149,7 +149,7 @@ module _ {R : Type 0} (h : R → Dig) where
   -- ── inserting an item: the leaf in whose gap it lies leads to it, and it leads on ──
 
   insert-chain : (q A B : ℕ) (w : Dig) (new : R) (a : ℕ) (r : R) (l : List (ListItem R)) (z : ℕ) → z ≤ a → Ascending a l → a < q
-      → Unlisted q l → Gap A B q → 0 < count (points A B w) (chainOf h a r l z) → (x : Leaf)
+      → Unlisted q l → Gap A B q → 0 < count (points A B w) (chainOf h a r l z) → (x : TreeLeaf)
       → Bypass q A B w (h new) x (chainOf h a r (insert q new l) z) (chainOf h a r l z)
   unfolding insert
   insert-chain q A B w new a r [] z hz g hq f k m x =
@@ -188,7 +188,7 @@ module _ {R : Type 0} (h : R → Dig) where
       go false u (inr t) i = simp count-cons (omega (arith, i (omega (arith, ltb-false q b u, f .0)) t))
 
   pub insert-ring : (q A B : ℕ) (w : Dig) (new : R) (ls : List (ListItem R)) → Ascending 0 ls → Gap A B q
-      → 0 < count (points A B w) (ring h ls) → (x : Leaf) → Bypass q A B w (h new) x (ring h (insert q new ls)) (ring h ls)
+      → 0 < count (points A B w) (ring h ls) → (x : TreeLeaf) → Bypass q A B w (h new) x (ring h (insert q new ls)) (ring h ls)
   unfolding insert
   insert-ring q A B w new [] g k m x = absurd (omega (arith, count-nil (points A B w)))
   insert-ring q A B w new (itemWith a r ∷ l) g k m x = go (ltb q a) refl (unlisted-in h q A B w a r l a (omega arith) (g .1) k m)

@@ -7,10 +7,10 @@ use Prim.Native.Nat.{ℕ, _+_, _<_}
 use native.Mathlib.Omega.{arith}
 use Rattle.paper.specs.declared.Record.{Record}
 use Rattle.paper.specs.Strings.{Dig, nought, emptyRecord, Str, leaf}
-use Rattle.rings.specs.Trees.{Leaf, points, Tree, empty, tip, one, count}
+use Rattle.rings.specs.Trees.{TreeLeaf, points, Tree, empty, tip, one, count}
 use Rattle.rings.specs.Lists.{ListItem, itemWith, Ascending, OnList, insert, chainOf, ring}
 use Rattle.rings.specs.Changes.{Step, insertion, removal, doSteps, reversed}
-use Rattle.rings.specs.Meanings.{_∈_, Within, AllRecords, MeansU2, hashOfTree, TreeIn, hashRecord, Known, known-empty, Fault, Leads, MeansEI}
+use Rattle.rings.specs.Meanings.{_∈_, Within, AllRecords, MeansU2, hashOfTree, TreeIn, hashRecord, RecordKnown, known-empty, Fault, Leads, MeansEI}
 use Rattle.rings.proofs.Counting.{one-self, count-nil, count-cons, count-only, count-single}
 use Rattle.rings.proofs.Nodes.{_>>=_, no-leaf, only-leaf}
 use Rattle.rings.proofs.Align.{Two, align-two, paths-more}
@@ -23,7 +23,7 @@ use Rattle.rings.proofs.Steps.{steps-append, legal-append, reversed-app
 use Rattle.rings.proofs.Records.{hash-empty, no-record}
 
 module _ (D : Str → Dig) where
-  abbrev ringOf : List (ListItem Record) → List Leaf
+  abbrev ringOf : List (ListItem Record) → List TreeLeaf
   ringOf ls = ring (hashRecord D) ls
 
   -- ── two places of every tree with the hash, by a U2 ──
@@ -107,15 +107,15 @@ module _ (D : Str → Dig) where
   -- ── 07 first ──
 
   -- a ring without leaves is that of the empty list
-  pub no-items : (ls : List (ListItem Record)) → ((x : Leaf) → count x (ringOf ls) ≡ 0) → ls ≡ []
+  pub no-items : (ls : List (ListItem Record)) → ((x : TreeLeaf) → count x (ringOf ls) ≡ 0) → ls ≡ []
   no-items [] f = refl
   no-items (itemWith a r ∷ l) f =
       let i = item-leaf (hashRecord D) a r (itemWith a r ∷ l) (List·Memᴰ·head refl) in
       absurd (omega (arith, f (points a (i .0) (hashRecord D r)), i .1))
 
   -- a ring of one leaf, of hash 0, is that of one empty item
-  one-item : {F : List Str} (A : ℕ) (ls : List (ListItem Record)) → Ascending 0 ls → AllRecords (Known D F) ls
-      → ((x : Leaf) → count x (ringOf ls) ≡ count x (points A A nought ∷ [])) → Fault D F ⊎ (ls ≡ itemWith A emptyRecord ∷ [])
+  one-item : {F : List Str} (A : ℕ) (ls : List (ListItem Record)) → Ascending 0 ls → AllRecords (RecordKnown D F) ls
+      → ((x : TreeLeaf) → count x (ringOf ls) ≡ count x (points A A nought ∷ [])) → Fault D F ⊎ (ls ≡ itemWith A emptyRecord ∷ [])
   one-item A [] g k f =
       let x = points A A nought in
       absurd (omega (arith, f x, count-nil x, count-cons x x [], one-self x))
@@ -183,12 +183,12 @@ module _ (D : Str → Dig) where
     let u = t .fill (tip (points A B w)) empty refl refl (s _ (k .without)) tt
     let x₁ = points A q w
     let x₂ = points q B nought
-    let cut : (x : Leaf) → count x (ringOf ls) ≡ one x x₁ + one x x₂ + count x (t .rest) =
+    let cut : (x : TreeLeaf) → count x (ringOf ls) ≡ one x x₁ + one x x₂ + count x (t .rest) =
         λ x. omega (arith, g .permuted x, t .cut x, count-only x x₁ _ a, count-only x x₂ _ b)
     let p₁ : 0 < count x₁ (ringOf ls) = omega (arith, cut x₁, one-self x₁)
     let p₂ : 0 < count x₂ (ringOf ls) = omega (arith, cut x₂, one-self x₂)
     let held = leaf-item (hashRecord D) q B nought ls p₂
-    c ← no-record D (held .0) (record-at (Known D G) ls q (held .0) (g .known) (held .1)) (held .2)
+    c ← no-record D (held .0) (record-at (RecordKnown D G) ls q (held .0) (g .known) (held .1)) (held .2)
     let removed = remove-ring (hashRecord D) q A B w nought ls (g .ascending) (gap-apart (k .gap)) p₁ p₂
     inr (record {
       tree = u .tree;
@@ -197,7 +197,7 @@ module _ (D : Str → Dig) where
       stands = record {
         tree-in = u .tree-in;
         ascending = remove-ascending 0 q ls (g .ascending);
-        known = remove-all (Known D G) q ls (g .known);
+        known = remove-all (RecordKnown D G) q ls (g .known);
         permuted = λ x.
             omega (arith, u .holds x, cut x, removed x, count-only x (points A B w) _ refl, count-nil x);
       };
@@ -213,12 +213,12 @@ module _ (D : Str → Dig) where
     let x₁ = points A q w
     let x₂ = points q B nought
     let x₁′ = points A B w
-    let cut : (x : Leaf) → count x (ringOf ls) ≡ one x x₁′ + count x (t .rest) =
+    let cut : (x : TreeLeaf) → count x (ringOf ls) ≡ one x x₁′ + count x (t .rest) =
         λ x. omega (arith, g .permuted x, t .cut x, count-only x x₁′ _ a, ap (count x) b, count-nil x)
     let p : 0 < count x₁′ (ringOf ls) = omega (arith, cut x₁′, one-self x₁′)
     let free = gap-free (hashRecord D) q A B w ls (g .ascending) (k .gap) p
     let positive = gap-positive (k .gap)
-    let fresh : (x : Leaf) → one x (points q B (hashRecord D emptyRecord)) ≡ one x x₂ = λ x. rw hash-empty refl
+    let fresh : (x : TreeLeaf) → one x (points q B (hashRecord D emptyRecord)) ≡ one x x₂ = λ x. rw hash-empty refl
     let inserted = insert-ring (hashRecord D) q A B w emptyRecord ls (g .ascending) (k .gap) p
     inr (record {
       tree = u .tree;
@@ -227,7 +227,7 @@ module _ (D : Str → Dig) where
       stands = record {
         tree-in = u .tree-in;
         ascending = insert-ascending 0 q emptyRecord ls positive free (g .ascending);
-        known = insert-all (Known D G) q emptyRecord ls (known-empty refl) (g .known);
+        known = insert-all (RecordKnown D G) q emptyRecord ls (known-empty refl) (g .known);
         permuted = λ x.
             omega (arith, u .holds x, cut x, inserted x, fresh x, count-only x x₁ _ refl, count-only x x₂ _ refl);
       };

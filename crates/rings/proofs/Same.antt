@@ -7,7 +7,7 @@ use Rattle.paper.specs.declared.Record.{Record}
 use Rattle.paper.specs.Strings.{Dig, Str}
 use Rattle.rings.specs.Trees.{points, Tree, empty, tip, branch, leaves, Permuted}
 use Rattle.rings.specs.Lists.{ListItem, itemWith, ring}
-use Rattle.rings.specs.Meanings.{AllRecords, hashOfTree, TreeIn, hashRecord, Known, StandsFor, Fault}
+use Rattle.rings.specs.Meanings.{AllRecords, hashOfTree, TreeIn, hashRecord, RecordKnown, StandsFor, Fault}
 use Rattle.rings.proofs.Counting.{count-append}
 use Rattle.rings.proofs.Nodes.{_>>=_, no-leaf, only-leaf}
 use Rattle.rings.proofs.Align.{split}
@@ -31,13 +31,13 @@ module _ (D : Str → Dig) where
     inr (λ x. omega (arith, a x, b x, s .cut x, count-append x (leaves l) (leaves r)))
 
   -- each item of the part l of ls is listed in m, where their rings are the same
-  into : {F : List Str} (ls l m : List (ListItem Record)) → AllRecords (Known D F) ls → AllRecords (Known D F) m
+  into : {F : List Str} (ls l m : List (ListItem Record)) → AllRecords (RecordKnown D F) ls → AllRecords (RecordKnown D F) m
       → Permuted (ring (hashRecord D) ls) (ring (hashRecord D) m) → Into l ls → Fault D F ⊎ Into l m
   into ls [] m k k′ f s = inr (λ a r i. elim i [ ])
   into {F} ls (itemWith a r ∷ l) m k k′ f s = do
     let here = s a r (List·Memᴰ·head refl)
     let i = item-leaf (hashRecord D) a r ls here
-    let kr = record-at (Known D F) ls a r k here
+    let kr = record-at (RecordKnown D F) ls a r k here
     h ← leaf-record D a (i .0) r m kr k′ (omega (arith, f (points a (i .0) (hashRecord D r)), i .1))
     t ← into ls l m k k′ f (λ b q j. s b q (List·Memᴰ·tail j))
     inr (λ b q j. elim (List·Memᴰ·cases-cons j) [ inl e ↦ rw e h | inr j ↦ t b q j ])

@@ -2,10 +2,10 @@
 use mathlib.Core.Path.{_≡_}
 use mathlib.Core.List.{List, List·Memᴰ}
 use Prim.Native.Nat.{ℕ}
-use Rattle.paper.specs.Strings.{Dig, nought, Str, digest}
+use Rattle.paper.specs.Strings.{Dig, nought, Str, digestOf}
 
 -- demand 3: "such a string with an all-zero digest": it is among the strings formed
 pub record ZeroDigest (D : List ℕ → Dig) (formed : List Str) : Type 0 where
   pub string : Str
   pub string-formed : List·Memᴰ string formed
-  pub zero-digest : digest D string ≡ nought
+  pub zero-digest : digestOf D string ≡ nought

@@ -6,7 +6,7 @@ use Prim.Native.Nat.{ℕ, _<_}
 use lib.Dec.{eqb, ltb}
 use Rattle.seqs.specs.Choose.{pick}
 use Rattle.paper.specs.Strings.{Dig}
-use Rattle.rings.specs.Trees.{Leaf, points}
+use Rattle.rings.specs.Trees.{TreeLeaf, points}
 
 -- an item of the list: its number and its record, which may be the empty one
 pub data ListItem (R : Type 0) : Type 0 where
@@ -47,11 +47,11 @@ module _ {R : Type 0} where
   -- ── the ring ──
 
   -- the leaf of item a with record r, and those of the items after it; the last leads to z
-  abbrev pub chainOf : (h : R → Dig) (a : ℕ) (r : R) → List (ListItem R) → (z : ℕ) → List Leaf
+  abbrev pub chainOf : (h : R → Dig) (a : ℕ) (r : R) → List (ListItem R) → (z : ℕ) → List TreeLeaf
   chainOf h a r [] z = points a z (h r) ∷ []
   chainOf h a r (itemWith b s ∷ l) z = points a b (h r) ∷ chainOf h b s l z
 
   -- (a1, a2, h r1), (a2, a3, h r2), .., (an, a1, h rn): every leaf leads to the next number, the last to the first
-  abbrev pub ring : (h : R → Dig) → List (ListItem R) → List Leaf
+  abbrev pub ring : (h : R → Dig) → List (ListItem R) → List TreeLeaf
   ring h [] = []
   ring h (itemWith a r ∷ l) = chainOf h a r l a

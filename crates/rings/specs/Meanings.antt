@@ -25,8 +25,8 @@ Within F G = (s : Str) → s ∈ F → s ∈ G
 
 -- a level of a path: the sibling, and the side that it stands on
 pub data Sibling : Type 0 where
-  left : Dig → Sibling
-  right : Dig → Sibling
+  leftSibling : Dig → Sibling
+  rightSibling : Dig → Sibling
 
 -- P holds of every record of a list
 abbrev pub AllRecords : {R : Type 0} → (R → Type 0) → List (ListItem R) → Type 0
@@ -48,13 +48,13 @@ module _ (D : Str → Dig) where
   -- what stands above x at the end of a path, the topmost sibling first; and the node strings of the way up are among F
   abbrev pub fold : List Sibling → Dig → Dig
   fold [] x = x
-  fold (left s ∷ p) x = above s (fold p x)
-  fold (right s ∷ p) x = above (fold p x) s
+  fold (leftSibling s ∷ p) x = above s (fold p x)
+  fold (rightSibling s ∷ p) x = above (fold p x) s
 
   abbrev pub PathIn : List Str → List Sibling → Dig → Type 0
   PathIn F [] x = Unit {0}
-  PathIn F (left s ∷ p) x = PathIn F p x × NodeIn F s (fold p x)
-  PathIn F (right s ∷ p) x = PathIn F p x × NodeIn F (fold p x) s
+  PathIn F (leftSibling s ∷ p) x = PathIn F p x × NodeIn F s (fold p x)
+  PathIn F (rightSibling s ∷ p) x = PathIn F p x × NodeIn F (fold p x) s
 
   -- two places: paths p₁ and p₂ that meet under one node, and q above it
   abbrev pub fold-two : (p₁ p₂ q : List Sibling) → Dig → Dig → Dig
@@ -109,15 +109,15 @@ module _ (D : Str → Dig) where
   hashRecord r = pick (blank r) nought (D (entry r))
 
   -- a record is known: it is the empty one, or its string is among F. Without that, a hash of 0 would not say that it is empty
-  pub data Known (F : List Str) (r : Record) : Type 0 where
-    known-empty : r ≡ emptyRecord → Known F r
-    known-recorded : r .revision .0 ≢ 0 → entry r ∈ F → Known F r
+  pub data RecordKnown (F : List Str) (r : Record) : Type 0 where
+    known-empty : r ≡ emptyRecord → RecordKnown F r
+    known-recorded : r .revision .0 ≢ 0 → entry r ∈ F → RecordKnown F r
 
   -- the tree's strings and those of the records are formed, and the tree's leaves are the ring of the list in some order
   pub record StandsFor (F : List Str) (T : Tree) (ls : List (ListItem Record)) : Type 0 where
     pub tree-in : TreeIn F T
     pub ascending : Ascending 0 ls
-    pub known : AllRecords (Known F) ls
+    pub known : AllRecords (RecordKnown F) ls
     pub permuted : Permuted (leaves T) (ring hashRecord ls)
 
   -- ── EI ──

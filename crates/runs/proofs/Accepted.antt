@@ -10,8 +10,8 @@ use Rattle.seqs.specs.Choose.{pick, both, either, opposite, both-true}
 use Rattle.paper.specs.declared.Registers.{Registers}
 use Rattle.paper.specs.Strings.{Dig, Str}
 use Rattle.paper.specs.Requests.{Request}
-use Rattle.paper.specs.Refusals.{Check, those, anyFails, formsAll, applies, formedAt, passed, judge, Passed}
-use Rattle.paper.specs.Module.{Told, told}
+use Rattle.paper.specs.Refusals.{Check, those, anyFails, formsAll, applies, formedAt, allPassed, judge, Passed}
+use Rattle.paper.specs.Module.{Told, toldBy}
 use Rattle.paper.proofs.Early.{among, numbered, none-of}
 use Rattle.paper.proofs.Verdicts.{firstOf, number-is, passed-at}
 
@@ -74,13 +74,13 @@ formedAll [] fs cs = fs
 formedAll (n ∷ ns) fs cs = formedAll ns (formedAt n cs ++ fs) cs
 
 pub judge-passed : (ns : List ℕ) (fs : List Str) (cs : List Check) → Passed ns cs
-    → judge ns fs cs ≡ passed (formedAll ns fs cs)
+    → judge ns fs cs ≡ allPassed (formedAll ns fs cs)
 judge-passed [] fs cs h = refl
 judge-passed (n ∷ ns) fs cs h = rw (h .0) (judge-passed ns (formedAt n cs ++ fs) cs (h .1))
 
 module _ (D : List ℕ → Dig) (s : Registers) (k : ℕ) (q : Request) (ns : List ℕ) (cs : List Check) where
   abbrev answered : Told
-  answered = told D s k q (judge ns [] cs)
+  answered = toldBy D s k q (judge ns [] cs)
 
   pub accepted-passed : nonzero ns ≡ true → answered .refusal ≡ 0 → Passed ns cs
   accepted-passed z h = number-zero ns cs z (sym (number-is D s k q ns [] cs) ∙ h)

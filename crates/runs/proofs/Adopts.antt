@@ -13,9 +13,9 @@ use Rattle.paper.specs.declared.Registers.{Registers}
 use Rattle.paper.specs.Strings.{Dig, nought, Memo, Str, leaf, inGap}
 use Rattle.paper.specs.Requests as Q
 use Rattle.paper.specs.Requests.{Request}
-use Rattle.paper.specs.Refusals.{noneFits, needs, carried}
+use Rattle.paper.specs.Refusals.{noneFits, needs, carriedMemoranda}
 use Rattle.paper.specs.Answers as Does
-use Rattle.paper.specs.Answers.{ListChange, rooted, issue, answer}
+use Rattle.paper.specs.Answers.{ListChange, rooted, answerIssuing, answer}
 use Rattle.rings.specs.Changes.{Step, insertion, removal, doSteps, reversed}
 use Rattle.runs.specs.Run.{Issue, meaning, World}
 use Rattle.runs.specs.Sizes.{InEightBytes}
@@ -44,8 +44,8 @@ module _ (D : List ℕ → Dig) where
     pub leads : Leads D w qs (at w formed (record { memorandum = note D (w .registers) t; does = c } ∷ book))
 
   pub heads-line : (w : World) (q : Request) (shown : List ℕ) (before : List Str) (t : Memo) (c : ListChange) → Sendable q
-      → NoneFails (needs D (w .registers) q) → AllIssued (carried D (w .registers) q) (w .book)
-      → answer D (w .registers) q ≡ issue D (w .registers) shown before t c → Heads w (q ∷ []) t (meaning (w .book) c)
+      → NoneFails (needs D (w .registers) q) → AllIssued (carriedMemoranda D (w .registers) q) (w .book)
+      → answer D (w .registers) q ≡ answerIssuing D (w .registers) shown before t c → Heads w (q ∷ []) t (meaning (w .book) c)
   heads-line w q shown before t c ok n i e =
       let r = issued-first D w q ok n i shown before t c e in
       record { formed = r .0; book = w .book; leads = r .1 }

@@ -10,12 +10,12 @@ use Rattle.seqs.specs.Choose.{pick, either}
 use Rattle.seqs.specs.Bytes.{same}
 use Rattle.sha256.specs.Hash.{sha256}
 use Rattle.sha256.proofs.Digests.{sha256-length}
-use Rattle.paper.specs.Strings.{Dig, digest}
+use Rattle.paper.specs.Strings.{Dig, digestOf}
 use Rattle.rings.proofs.Nodes.{_>>=_, instead}
 use Rattle.rings.proofs.Memos.{stands-more}
 use Rattle.rings.proofs.Endings.{fault-shows}
 use Rattle.rings.proofs.InPaper.{same-list}
-use Rattle.runs.specs.Run.{Issue, standsFor, isIssued, issuedBy, toldAt, after}
+use Rattle.runs.specs.Run.{Issue, stepsFor, isIssued, issuedBy, toldAt, after}
 use Rattle.runs.specs.Safety.{SafeOrEnded}
 use Rattle.runs.specs.Also.{onwards, NothingToShow, RootSettlesList, NoOtherWayOut, HonestReplayed, EarliestStays, MemorandaMean, AlsoFor, Also}
 use Rattle.runs.proofs.Formed.{well-at, well-append}
@@ -37,8 +37,8 @@ module _ (D : List ℕ → Dig) (D32 : (l : List ℕ) → length (D l) ≡ 32) w
     d ← instead inr (run D D32 k′ us)
     inr (instead (fault-shows (λ s i. well-at (F ++ G) s well i))
         (same-list D D32 (F ++ G) (c .0 .tree) (d .0 .tree) (after D k ts .items) (after D k′ us .items)
-        (c .0 .root ∙ e ∙ sym (d .0 .root)) (stands-more (digest D) (λ s i. Memᴰ·append-left G i) (c .0 .stands))
-        (stands-more (digest D) (λ s i. Memᴰ·append-right F i) (d .0 .stands))))
+        (c .0 .root ∙ e ∙ sym (d .0 .root)) (stands-more (digestOf D) (λ s i. Memᴰ·append-left G i) (c .0 .stands))
+        (stands-more (digestOf D) (λ s i. Memᴰ·append-right F i) (d .0 .stands))))
 
 -- ── the only ways out ──
 
@@ -49,12 +49,12 @@ module _ (D : List ℕ → Dig) where
 
   -- ── what the earliest line meant ──
 
-  stands-append : (m : Dig) (a b : List Issue) → isIssued m a ≡ true → standsFor m (a ++ b) ≡ standsFor m a
+  stands-append : (m : Dig) (a b : List Issue) → isIssued m a ≡ true → stepsFor m (a ++ b) ≡ stepsFor m a
   stands-append m [] b h = absurd (true≢false (sym h))
   stands-append m (i ∷ a) b h = by-test (same (i .memorandum) m) h (stands-append m a b)
     where
-      by-test : (c : Bool) → either c (isIssued m a) ≡ true → (isIssued m a ≡ true → standsFor m (a ++ b) ≡ standsFor m a)
-          → pick c (i .does) (standsFor m (a ++ b)) ≡ pick c (i .does) (standsFor m a)
+      by-test : (c : Bool) → either c (isIssued m a) ≡ true → (isIssued m a ≡ true → stepsFor m (a ++ b) ≡ stepsFor m a)
+          → pick c (i .does) (stepsFor m (a ++ b)) ≡ pick c (i .does) (stepsFor m a)
       by-test true h f = refl
       by-test false h f = f h
 

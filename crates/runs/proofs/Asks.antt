@@ -10,13 +10,13 @@ use borrow.Author.Tests.{eq-eqb}
 use Rattle.seqs.specs.Choose.{either-yes, _and_}
 use Rattle.paper.specs.declared.Record.{Record}
 use Rattle.paper.specs.declared.Registers.{Registers}
-use Rattle.paper.specs.Strings.{Dig, nought, v1, u1, Memo, Str, digest, recordHash, H}
+use Rattle.paper.specs.Strings.{Dig, nought, v1, u1, Memo, Str, digestOf, recordHash, H}
 use Rattle.paper.specs.Requests as Q
 use Rattle.paper.specs.Requests.{Request}
 use Rattle.paper.specs.Refusals.{leafOf, needs}
 use Rattle.paper.specs.Answers.{findingOf}
 use Rattle.paper.specs.Module.{Told}
-use Rattle.rings.specs.Trees.{Leaf, points, Tree, empty, tip, branch, leaves, hashOf, count}
+use Rattle.rings.specs.Trees.{TreeLeaf, points, Tree, empty, tip, branch, leaves, hashOf, count}
 use Rattle.rings.specs.Lists.{itemWith, OnList}
 use Rattle.rings.proofs.Counting.{one-self, count-nil, count-cons, count-append, occurs}
 use Rattle.rings.proofs.Gaps.{gap-holds, gap-tells}
@@ -28,7 +28,7 @@ use Rattle.runs.specs.Sizes.{InEightBytes, ItemFits}
 use Rattle.runs.specs.Frames.{turnOf, turnsOf}
 use Rattle.runs.specs.Ways.{itemOf, nextOf, hashIn, tellsOf, has, found, wayTo, rise}
 use Rattle.runs.specs.Honest.{recordOf, note, onePlace, leafLines, askLines}
-use Rattle.runs.specs.Liveness.{lastReply, TrueReply, finding, nothing-listed}
+use Rattle.runs.specs.Liveness.{lastReply, TrueReply, findingGiven, nothing-listed}
 use Rattle.runs.proofs.Accepted.{NoneFails}
 use Rattle.runs.proofs.Safe.{true-finding}
 use Rattle.runs.proofs.Parts.{IsDigest}
@@ -49,7 +49,7 @@ module _ (D : List ℕ → Dig) where
   last-is w (p ∷ r ∷ a) q = last-is (next D last w (turnOf p)) (r ∷ a) q
 
   -- a tree without leaves hashes to 0
-  pub none-hash : (T : Tree) → ((x : Leaf) → count x (leaves T) ≡ 0) → hashOf D T ≡ nought
+  pub none-hash : (T : Tree) → ((x : TreeLeaf) → count x (leaves T) ≡ 0) → hashOf D T ≡ nought
   unfolding H
   none-hash empty f = refl
   none-hash (tip x) f = absurd (omega (arith, f x, count-cons x x [], one-self x))
@@ -108,7 +108,7 @@ module _ {D : List ℕ → Dig} {w : World} {T : Tree} (g : Ground D w T) where
         let r = recordOf A (w .items) in
         let k : r ≡ t .held = record-is 0 A (t .held) (w .items) (g .ascending) (t .listed) in
         let d : ItemFits A r = rw k (g .fits A (t .held) (t .listed)) in
-        let x = digest D (leafOf D A A′ r) in
+        let x = digestOf D (leafOf D A A′ r) in
         let p = wayTo (tellsOf q) T in
         let y = rise D p x in
         let e : y ≡ s .root = ap (rise D p) (item-digest g A (t .held) (t .listed) (tellsOf q) t refl) ∙ t .to-root in
@@ -135,9 +135,9 @@ module _ {D : List ℕ → Dig} {w : World} {T : Tree} (g : Ground D w T) where
         subst (Answers q)
         (append-assoc (onePlace D s p (record { was = x; becomes = x })) (Q.witness x y (note D s (u1 x y x y)) ∷ []) (a ∷ []))
         (answers-last q h a (leads-one D v a ok n (h .got, tt))
-        (finding (findingOf q A A′ r) true-of (ap (λ (u : Told). u .says) (told-is D v a ok n))))
+        (findingGiven (findingOf q A A′ r) true-of (ap (λ (u : Told). u .says) (told-is D v a ok n))))
       where
-        at-z : (z : Leaf) (v : Dig) → v ≡ hashIn z → z ≡ points (itemOf z) (nextOf z) v
+        at-z : (z : TreeLeaf) (v : Dig) → v ≡ hashIn z → z ≡ points (itemOf z) (nextOf z) v
         at-z (points A B u) v e = ap (points A B) (sym e)
 
     none-at-all : w .items ≡ [] → Answers q (Q.askNone q ∷ [])

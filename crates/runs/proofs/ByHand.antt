@@ -12,12 +12,12 @@ use Rattle.seqs.specs.Bytes.{Bytes, be64, same-refl}
 use Rattle.hex.specs.Hex.{digitsOf}
 use Rattle.paper.specs.declared.Record.{Record}
 use Rattle.paper.specs.declared.Registers.{Registers}
-use Rattle.paper.specs.Strings.{Dig, v1, emptyRecord, blank, malformed, inGap, digest, memorandum}
+use Rattle.paper.specs.Strings.{Dig, v1, emptyRecord, blank, malformed, inGap, digestOf, memorandum}
 use Rattle.paper.specs.Requests as Q
 use Rattle.paper.specs.Refusals.{replyRoom, leafOf, needs}
 use Rattle.paper.specs.Answers.{findingOf, findingBytes}
 use Rattle.paper.specs.Module.{Told, answerTo}
-use Rattle.rings.specs.Trees.{Leaf, points}
+use Rattle.rings.specs.Trees.{TreeLeaf, points}
 use Rattle.rings.specs.Lists.{ListItem, itemWith, OnList, Unlisted}
 use Rattle.runs.specs.Run.{World}
 use Rattle.runs.specs.Safety.{Neighbours}
@@ -73,10 +73,10 @@ unlisted A n m = (n, (m, tt))
 
 -- ── neighbours ──
 
-abbrev fromOf : Leaf → ℕ
+abbrev fromOf : TreeLeaf → ℕ
 fromOf (points A A′ ω) = A
 
-abbrev toOf : Leaf → ℕ
+abbrev toOf : TreeLeaf → ℕ
 toOf (points A A′ ω) = A′
 
 module _ (D : List ℕ → Dig) where
@@ -181,11 +181,11 @@ module _ (D : List ℕ → Dig) (D32 : (l : List ℕ) → length (D l) ≡ 32) (
       → InEightBytes q → InEightBytes A → InEightBytes A′ → RecordFits r
       → eqb q 0 ≡ false → eqb A 0 ≡ false → eqb A′ 0 ≡ false → malformed r ≡ false
       → either (eqb q A) (inGap q A A′) ≡ true
-      → (let m = memorandum D (v1 (digest D (leafOf D A A′ r)) (s .root)) (s .secret) in
+      → (let m = memorandum D (v1 (digestOf D (leafOf D A A′ r)) (s .root)) (s .secret) in
       answerTo D s (digitsOf (frame q A A′ r (s .root ++ m))) replyRoom .says ≡ 0x8e ∷ findingBytes (findingOf q A A′ r))
   reply q A A′ r s o n b hq hA hA′ hr q0 A0 A′0 ok near =
       let w : World = record { registers = s; formed = []; book = []; items = []; changed = 0 } in
-      let t = v1 (digest D (leafOf D A A′ r)) (s .root) in
+      let t = v1 (digestOf D (leafOf D A A′ r)) (s .root) in
       let m = memorandum D t (s .secret) in
       let a = Q.ask q A A′ r (s .root) m in
       let ok-y : IsDigest (s .root) = record { wide = n; bytes = b } in

@@ -9,14 +9,14 @@ use lib.Dec.{eqb}
 use Rattle.seqs.specs.Choose.{pick}
 use Rattle.seqs.specs.Bytes.{same, same-true}
 use Rattle.paper.specs.declared.Registers.{Registers}
-use Rattle.paper.specs.Strings.{Dig, Memo, Str, digest, memorandum, memorandumForms}
+use Rattle.paper.specs.Strings.{Dig, Memo, Str, digestOf, memorandum, memorandumForms}
 use Rattle.paper.specs.Requests.{Request}
-use Rattle.paper.specs.Refusals.{Check, noneFits, tried, needs, compared, carried, those, anyFails, formsAll, formedAt}
+use Rattle.paper.specs.Refusals.{Check, noneFits, tried, needs, compared, carriedMemoranda, those, anyFails, formsAll, formedAt}
 use Rattle.paper.specs.Answers.{answer}
 use Rattle.paper.proofs.Verdicts.{the-one}
 use Rattle.rings.specs.Meanings.{Within, Fault, Means}
 use Rattle.rings.proofs.Nodes.{_>>=_, instead}
-use Rattle.runs.specs.Run.{World, standsFor, isIssued}
+use Rattle.runs.specs.Run.{World, stepsFor, isIssued}
 use Rattle.runs.specs.Also.{AllBacked}
 use Rattle.runs.proofs.Accepted.{NoneApplies}
 use Rattle.runs.proofs.Widths.{Wide}
@@ -47,7 +47,7 @@ module _ (D : List ℕ → Dig) (w : World) where
 
   -- a memorandum that it carries was never issued
   abbrev pub Forgery : Request → Type 0
-  Forgery q = (m : Dig) × List·Memᴰ m (carried D s q) × (isIssued m (w .book) ≡ false)
+  Forgery q = (m : Dig) × List·Memᴰ m (carriedMemoranda D s q) × (isIssued m (w .book) ≡ false)
 
   module _ (G : List Str) where
     -- an accepted request, and its strings among G
@@ -58,11 +58,11 @@ module _ (D : List ℕ → Dig) (w : World) where
       pub wide : Wide q
 
     abbrev pub Or : Request → Type 0 → Type 0
-    Or q A = (Fault (digest D) G ⊎ Forgery q) ⊎ A
+    Or q A = (Fault (digestOf D) G ⊎ Forgery q) ⊎ A
 
     -- a memorandum m that a check asks to say one of some things, behind other strings
     pub record Asked (q : Request) (before : List Str) (says : List Memo) (m : Dig) : Type 0 where
-      pub is-carried : List·Memᴰ m (carried D s q)
+      pub is-carried : List·Memᴰ m (carriedMemoranda D s q)
       pub formed-before : Within before G
       pub formed : Within (tried D key says m) G
       pub fits : noneFits D key says m ≡ false
@@ -83,16 +83,16 @@ module _ (D : List ℕ → Dig) (w : World) where
 
     module _ (b : AllBacked D G (w .book)) where
       abbrev pub Meant : Memo → Dig → Type 0
-      Meant t m = Means (digest D) G t (standsFor m (w .book))
+      Meant t m = Means (digestOf D) G t (stepsFor m (w .book))
 
       -- one whose strings are formed
-      taken : (q : Request) (t : Memo) (m : Dig) → List·Memᴰ m (carried D s q) → Within (memorandumForms D t key) G
+      taken : (q : Request) (t : Memo) (m : Dig) → List·Memᴰ m (carriedMemoranda D s q) → Within (memorandumForms D t key) G
           → memorandum D t key ≡ m → Or q (Meant t m)
       taken q t m c i e =
           instead (λ x. elim x [ inl f ↦ inl f | inr u ↦ inr (m, c, u) ]) (look D m t key (w .book) b i e)
 
       -- one that a check asks to say t
-      one-way : (q : Request) (t : Memo) (m : Dig) → List·Memᴰ m (carried D s q) → Within (tried D key (t ∷ []) m) G
+      one-way : (q : Request) (t : Memo) (m : Dig) → List·Memᴰ m (carriedMemoranda D s q) → Within (tried D key (t ∷ []) m) G
           → noneFits D key (t ∷ []) m ≡ false → Or q (Meant t m)
       one-way q t m c i h = by-test (same (memorandum D t key) m) refl h
         where

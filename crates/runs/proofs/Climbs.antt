@@ -10,7 +10,7 @@ use lib.ListN.{length, replicate}
 use Rattle.seqs.specs.Choose.{pick}
 use Rattle.seqs.specs.Bytes.{Bytes, allZero}
 use Rattle.paper.specs.declared.Record.{Record}
-use Rattle.paper.specs.Strings.{Dig, nought, node, entry, enc, digest, blank, recordHash, H, up, foldUp}
+use Rattle.paper.specs.Strings.{Dig, nought, node, entry, enc, digestOf, blank, recordHash, H, up, foldUp}
 use Rattle.paper.specs.Requests.{mostSiblings}
 use Rattle.rings.specs.Trees.{points, Tree, empty, tip, branch, hashOf}
 use Rattle.runs.specs.Ways.{onLeft, onRight, Way, sidesOf, siblingsOf, rise, inPaths, Fork, Edit, risen, parents, risenTwo}
@@ -87,13 +87,13 @@ pub record IsEdit (e : Edit) : Type 0 where
 module _ {D : List ℕ → Dig} (DD : (l : List ℕ) → IsDigest (D l)) where
   pub record-digest : (r : Record) → IsDigest (recordHash D r)
   unfolding recordHash
-  record-digest r = pick-digest (blank r) nought (digest D (entry r)) nought-digest (DD (enc (entry r)))
+  record-digest r = pick-digest (blank r) nought (digestOf D (entry r)) nought-digest (DD (enc (entry r)))
 
   parent-digest : (u v : Dig) → IsDigest u → IsDigest v → IsDigest (H D u v)
   unfolding H
   parent-digest u v h k =
-      pick-digest (allZero v) u (pick (allZero u) v (digest D (node u v))) h
-      (pick-digest (allZero u) v (digest D (node u v)) k (DD (enc (node u v))))
+      pick-digest (allZero v) u (pick (allZero u) v (digestOf D (node u v))) h
+      (pick-digest (allZero u) v (digestOf D (node u v)) k (DD (enc (node u v))))
 
   pub tree-digest : (T : Tree) → IsDigest (hashOf D T)
   tree-digest empty = nought-digest

@@ -8,7 +8,7 @@ use Prim.Native.Nat.{ℕ}
 use lib.ListN.{length}
 use Rattle.paper.specs.declared.Registers.{Registers}
 use Rattle.paper.specs.Strings.{Dig, Str}
-use Rattle.paper.specs.Refusals.{carried}
+use Rattle.paper.specs.Refusals.{carriedMemoranda}
 use Rattle.rings.specs.Meanings.{Within}
 use Rattle.runs.specs.Run.{LineTurn, last, ofRuns, Issue, isIssued, World, toldAt, next, after}
 use Rattle.runs.specs.Endings.{Forged, Ending, byCollision, byZeroDigest, byForgery, earlier}
@@ -70,9 +70,10 @@ module _ (D : List ℕ → Dig) where
   issued-in m (n ∷ ms) b (List·Memᴰ·tail i) h = issued-in m ms b i (h .1)
 
   -- what an honest line carries was issued, by whichever reading
-  not-forged : (v w : World) (t : LineTurn) → Alike v w → AllIssued (carried D (v .registers) (asked t)) (v .book) → Forged D w t → ⊥
+  not-forged : (v w : World) (t : LineTurn) → Alike v w → AllIssued (carriedMemoranda D (v .registers) (asked t)) (v .book)
+      → Forged D w t → ⊥
   not-forged v w t a h f =
-      let i = subst (λ (r : Registers). List·Memᴰ (f .memorandum) (carried D r (asked t))) (sym (a .registers)) (f .carries) in
+      let i = subst (λ (r : Registers). List·Memᴰ (f .memorandum) (carriedMemoranda D r (asked t))) (sym (a .registers)) (f .carries) in
       true≢false (sym (issued-in (f .memorandum) _ (v .book) i h) ∙ a .issued (f .memorandum) ∙ f .unissued)
 
   stays-formed : (k : Dig) (us ts : List LineTurn) → Within (after D k ts .formed) (after D k (onwards us ts) .formed)

@@ -16,7 +16,7 @@ use Rattle.paper.specs.Answers.{ListChange, Effect, issues, answer}
 use Rattle.paper.specs.Module.{Told}
 use Rattle.paper.proofs.Memoranda.{memorandum-32}
 use Rattle.runs.specs.Run.{LineTurn, Issue, ofRuns, meaning, World, issuedBy, toldAt, next, after}
-use Rattle.runs.specs.Also.{lastOf, Entered, BookGrows}
+use Rattle.runs.specs.Also.{lastOf, LineEnters, BookGrows}
 use Rattle.runs.proofs.Book.{entered-none}
 use Rattle.runs.proofs.Lines.{asked, kindIn, Sorted, refusal, acceptance, sorted, accepted-known}
 
@@ -72,13 +72,13 @@ module _ (D : List ℕ → Dig) (D32 : (l : List ℕ) → length (D l) ≡ 32) w
       let n : length ((b ∷ shown) ++ m) - 32 ≡ length (b ∷ shown) = omega (arith, length-append (b ∷ shown) m) in
       sym (ap (lastOf 32) e ∙ drop-at (b ∷ shown) m (length ((b ∷ shown) ++ m) - 32) (sym n))
 
-  enters : (w : World) (t : LineTurn) → Entered D w t (next D ofRuns w t .book)
+  enters : (w : World) (t : LineTurn) → LineEnters D w t (next D ofRuns w t .book)
   enters w t = by-sort (sorted D (w .registers) (t .line) (t .space))
     where
       f : List ℕ
       f = bytesOf (t .line)
 
-      by-sort : Sorted D (w .registers) (t .line) (t .space) → Entered D w t (next D ofRuns w t .book)
+      by-sort : Sorted D (w .registers) (t .line) (t .space) → LineEnters D w t (next D ofRuns w t .book)
       by-sort (refusal n fs z e r) =
           let same-book : next D ofRuns w t .book ≡ w .book = rw e (entered-none ofRuns (w .book)) in
           record {

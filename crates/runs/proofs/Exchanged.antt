@@ -7,7 +7,7 @@ use Prim.Native.Nat.{ℕ}
 use borrow.Author.Tests.{eqb-true}
 use Rattle.seqs.specs.Choose.{pick}
 use Rattle.paper.specs.Strings.{Dig}
-use Rattle.rings.specs.Trees.{Leaf, Leaf-discrete, Tree, empty, tip, branch, leaves}
+use Rattle.rings.specs.Trees.{TreeLeaf, TreeLeaf-discrete, Tree, empty, tip, branch, leaves}
 use Rattle.runs.specs.Run.{World}
 use Rattle.runs.specs.Wishes.{IsListed}
 use Rattle.runs.specs.Outcomes.{SameShape, nothings, tips, branches, IsLeafOf, Exchanged}
@@ -20,12 +20,12 @@ use Rattle.runs.proofs.Grown.{leaf-is}
 
 -- ── the leaves about a way ──
 
-abbrev ahead : Way → List Leaf
+abbrev ahead : Way → List TreeLeaf
 ahead [] = []
 ahead (onLeft S ∷ p) = ahead p ++ leaves S
 ahead (onRight S ∷ p) = ahead p
 
-abbrev behind : Way → List Leaf
+abbrev behind : Way → List TreeLeaf
 behind [] = []
 behind (onLeft S ∷ p) = behind p
 behind (onRight S ∷ p) = leaves S ++ behind p
@@ -33,42 +33,42 @@ behind (onRight S ∷ p) = leaves S ++ behind p
 leaves-plug : (p : Way) (X : Tree) → leaves (plug p X) ≡ ahead p ++ (leaves X ++ behind p)
 leaves-plug [] X = sym (append-nil (leaves X))
 leaves-plug (onLeft S ∷ p) X =
-    leaves-plug p (branch S X) ∙ ap (λ (l : List Leaf). ahead p ++ l) (append-assoc (leaves S) (leaves X) (behind p))
+    leaves-plug p (branch S X) ∙ ap (λ (l : List TreeLeaf). ahead p ++ l) (append-assoc (leaves S) (leaves X) (behind p))
     ∙ sym (append-assoc (ahead p) (leaves S) (leaves X ++ behind p))
 leaves-plug (onRight S ∷ p) X =
-    leaves-plug p (branch X S) ∙ ap (λ (l : List Leaf). ahead p ++ l) (append-assoc (leaves X) (leaves S) (behind p))
+    leaves-plug p (branch X S) ∙ ap (λ (l : List TreeLeaf). ahead p ++ l) (append-assoc (leaves X) (leaves S) (behind p))
 
 -- ── and about a fork ──
 
-abbrev front : Fork → List Leaf
+abbrev front : Fork → List TreeLeaf
 front f = ahead (f .above) ++ ahead (f .left)
 
-abbrev between : Fork → List Leaf
+abbrev between : Fork → List TreeLeaf
 between f = behind (f .left) ++ ahead (f .right)
 
-abbrev back : Fork → List Leaf
+abbrev back : Fork → List TreeLeaf
 back f = behind (f .right) ++ behind (f .above)
 
-regroup : (a b c d e f : List Leaf) (x z : Leaf)
+regroup : (a b c d e f : List TreeLeaf) (x z : TreeLeaf)
     → a ++ (((b ++ (x ∷ c)) ++ (d ++ (z ∷ e))) ++ f) ≡ (a ++ b) ++ (x ∷ ((c ++ d) ++ (z ∷ (e ++ f))))
 regroup a b c d e f x z = simp (append-assoc)
 
-leaves-two : (f : Fork) (x z : Leaf)
+leaves-two : (f : Fork) (x z : TreeLeaf)
     → leaves (plug-two f (tip x) (tip z)) ≡ front f ++ (x ∷ (between f ++ (z ∷ back f)))
 leaves-two f x z =
     leaves-plug (f .above) (branch (plug (f .left) (tip x)) (plug (f .right) (tip z)))
-    ∙ ap₂ (λ (l m : List Leaf). ahead (f .above) ++ ((l ++ m) ++ behind (f .above))) (leaves-plug (f .left) (tip x))
+    ∙ ap₂ (λ (l m : List TreeLeaf). ahead (f .above) ++ ((l ++ m) ++ behind (f .above))) (leaves-plug (f .left) (tip x))
     (leaves-plug (f .right) (tip z))
     ∙ regroup (ahead (f .above)) (ahead (f .left)) (behind (f .left)) (ahead (f .right)) (behind (f .right)) (behind (f .above)) x z
 
 -- ── a tree with other leaves ──
 
-same-shape : (g : Leaf → Tree) → ((v : Leaf) → (u : Leaf) × (g v ≡ tip u)) → (T : Tree) → SameShape T (regrown g T)
+same-shape : (g : TreeLeaf → Tree) → ((v : TreeLeaf) → (u : TreeLeaf) × (g v ≡ tip u)) → (T : Tree) → SameShape T (regrown g T)
 same-shape g k empty = nothings
 same-shape g k (tip v) = subst (SameShape (tip v)) (sym (k v .1)) (tips v (k v .0))
 same-shape g k (branch l r) = branches (same-shape g k l) (same-shape g k r)
 
-some-tip : {P Q : Type 0} (d : Dec P) (e : Dec Q) (a b c : Leaf) → (u : Leaf) × (ifYes d (tip a) (ifYes e (tip b) (tip c)) ≡ tip u)
+some-tip : {P Q : Type 0} (d : Dec P) (e : Dec Q) (a b c : TreeLeaf) → (u : TreeLeaf) × (ifYes d (tip a) (ifYes e (tip b) (tip c)) ≡ tip u)
 some-tip (yes p) e a b c = (a, refl)
 some-tip (no n) (yes q) a b c = (b, refl)
 some-tip (no n) (no m) a b c = (c, refl)
@@ -77,10 +77,10 @@ some-tip (no n) (no m) a b c = (c, refl)
 
 module _ {D : List ℕ → Dig} {w : World} {T : Tree} (g : Ground D w T) (A B : ℕ) (apart : A ≢ B) (m : IsListed A (w .items))
     (n : IsListed B (w .items)) where
-  abbrev x : Leaf
+  abbrev x : TreeLeaf
   x = found (isOf A) T
 
-  abbrev z : Leaf
+  abbrev z : TreeLeaf
   z = found (isOf B) T
 
   abbrev U : Tree
@@ -88,7 +88,7 @@ module _ {D : List ℕ → Dig} {w : World} {T : Tree} (g : Ground D w T) (A B :
 
   pub swap-keeps-shape : SameShape T U
   swap-keeps-shape =
-      same-shape (replacingTwo x (tip z) z (tip x)) (λ v. some-tip (Leaf-discrete v x) (Leaf-discrete v z) z x v) T
+      same-shape (replacingTwo x (tip z) z (tip x)) (λ v. some-tip (TreeLeaf-discrete v x) (TreeLeaf-discrete v z) z x v) T
 
   of-one : (C : ℕ) → IsListed C (w .items) → IsLeafOf C (found (isOf C) T)
   of-one C k =

@@ -10,11 +10,11 @@ use Rattle.hex.specs.Hex.{bytesOf, digitsOf}
 use Rattle.paper.specs.declared.Registers.{Registers}
 use Rattle.paper.specs.Strings.{Dig, Memo, Str, memorandum, memorandumForms}
 use Rattle.paper.specs.Requests.{Request, kindOf, known, fits, requestOf}
-use Rattle.paper.specs.Refusals.{replyRoom, noneFits, needs, passed, judge, carried}
-use Rattle.paper.specs.Answers.{ListChange, Answer, issue, answer}
-use Rattle.paper.specs.Module.{Told, told}
+use Rattle.paper.specs.Refusals.{replyRoom, noneFits, needs, allPassed, judge, carriedMemoranda}
+use Rattle.paper.specs.Answers.{ListChange, AnswerParts, answerIssuing, answer}
+use Rattle.paper.specs.Module.{Told, toldBy}
 use Rattle.rings.specs.Changes.{Step}
-use Rattle.runs.specs.Run.{Items, last, Issue, standsFor, isIssued, meaning, World, toldAt, landed, next}
+use Rattle.runs.specs.Run.{Items, last, Issue, stepsFor, isIssued, meaning, World, toldAt, landed, next}
 use Rattle.runs.specs.Frames.{partsOf, frameOf, turnOf, turnsOf}
 use Rattle.runs.specs.Honest.{note}
 use Rattle.runs.specs.Liveness.{AllIssued, fed, Honest}
@@ -63,33 +63,33 @@ module _ (D : List ℕ → Dig) where
     asked-is = let r = reads-back q ok in ap requestOf (line-is-frame q r) ∙ r .read
 
     pub told-is : NoneFails (needs D s q)
-        → toldAt D w (turnOf q) ≡ told D s (partsOf q .kind) q (passed (formedAll late [] (needs D s q)))
+        → toldAt D w (turnOf q) ≡ toldBy D s (partsOf q .kind) q (allPassed (formedAll late [] (needs D s q)))
     told-is n =
         let r = reads-back q ok in
         let e = line-is-frame q r in
         read-is D s (digitsOf (frameOf q)) replyRoom refl (line-is-hex q r)
         (subst (λ (f : List ℕ). known (kindOf f) ≡ true) (sym e) (r .kind-known))
         (subst (λ (f : List ℕ). fits f ≡ true) (sym e) (r .fit))
-        ∙ ap (λ (f : List ℕ). told D s (kindOf f) (requestOf f) (judge late [] (needs D s (requestOf f)))) e
-        ∙ ap (λ (p : Request). told D s (partsOf q .kind) p (judge late [] (needs D s p))) (r .read)
-        ∙ ap (told D s (partsOf q .kind) q) (judge-passed late [] (needs D s q) (all-pass late (needs D s q) n))
+        ∙ ap (λ (f : List ℕ). toldBy D s (kindOf f) (requestOf f) (judge late [] (needs D s (requestOf f)))) e
+        ∙ ap (λ (p : Request). toldBy D s (partsOf q .kind) p (judge late [] (needs D s p))) (r .read)
+        ∙ ap (toldBy D s (partsOf q .kind) q) (judge-passed late [] (needs D s q) (all-pass late (needs D s q) n))
 
     -- the line is accepted and honest, and the world after it is the one that its answer leaves
-    pub leads-one : NoneFails (needs D s q) → AllIssued (carried D s q) (w .book)
-        → Leads w (q ∷ []) (landed D last w (told D s (partsOf q .kind) q (passed (formedAll late [] (needs D s q)))))
+    pub leads-one : NoneFails (needs D s q) → AllIssued (carriedMemoranda D s q) (w .book)
+        → Leads w (q ∷ []) (landed D last w (toldBy D s (partsOf q .kind) q (allPassed (formedAll late [] (needs D s q)))))
     leads-one n i =
         record {
           to = ap (landed D last w) (told-is n);
           fair = (
             ap (λ (a : Told). a .refusal) (told-is n),
-            subst (λ (p : Request). AllIssued (carried D s p) (w .book)) (sym asked-is) i,
+            subst (λ (p : Request). AllIssued (carriedMemoranda D s p) (w .book)) (sym asked-is) i,
             tt,
           );
         }
 
     -- a memorandum issued stands first in the book
-    pub issued-first : NoneFails (needs D s q) → AllIssued (carried D s q) (w .book)
-        → (shown : List ℕ) (before : List Str) (t : Memo) (c : ListChange) → answer D s q ≡ issue D s shown before t c
+    pub issued-first : NoneFails (needs D s q) → AllIssued (carriedMemoranda D s q) (w .book)
+        → (shown : List ℕ) (before : List Str) (t : Memo) (c : ListChange) → answer D s q ≡ answerIssuing D s shown before t c
         → (F : List Str)
         × Leads w (q ∷ []) (at w F (record { memorandum = note D s t; does = meaning (w .book) c } ∷ w .book))
     issued-first n i shown before t c e =
@@ -99,7 +99,7 @@ module _ (D : List ℕ → Dig) where
           record {
             to =
                 l .to
-                ∙ ap (λ (a : Answer). landed D last w (record {
+                ∙ ap (λ (a : AnswerParts). landed D last w (record {
                   refusal = 0;
                   says = (0x80 + partsOf q .kind) ∷ a .lists;
                   after = a .after;
@@ -127,7 +127,7 @@ module _ (D : List ℕ → Dig) where
   pub head-issued : (m : Dig) (c : List Step) (b : List Issue) → isIssued m (record { memorandum = m; does = c } ∷ b) ≡ true
   head-issued m c b = rw (same-refl m) refl
 
-  pub head-stands : (m : Dig) (c : List Step) (b : List Issue) → standsFor m (record { memorandum = m; does = c } ∷ b) ≡ c
+  pub head-stands : (m : Dig) (c : List Step) (b : List Issue) → stepsFor m (record { memorandum = m; does = c } ∷ b) ≡ c
   head-stands m c b = rw (same-refl m) refl
 
   -- ── lines that change nothing and get a memorandum ──
@@ -156,8 +156,8 @@ module _ (D : List ℕ → Dig) where
 
   -- a line that issues
   pub say : (w : World) (q : Request) (shown : List ℕ) (before : List Str) (t : Memo) (c : ListChange) → Sendable q
-      → NoneFails (needs D (w .registers) q) → AllIssued (carried D (w .registers) q) (w .book)
-      → answer D (w .registers) q ≡ issue D (w .registers) shown before t c → Got w (q ∷ []) t
+      → NoneFails (needs D (w .registers) q) → AllIssued (carriedMemoranda D (w .registers) q) (w .book)
+      → answer D (w .registers) q ≡ answerIssuing D (w .registers) shown before t c → Got w (q ∷ []) t
   say w q shown before t c ok n i e =
       let r = issued-first w q ok n i shown before t c e in
       record {

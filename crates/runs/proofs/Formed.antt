@@ -13,12 +13,12 @@ use Rattle.seqs.specs.Bytes.{same, allZero}
 use Rattle.paper.specs.declared.Record.{Record}
 use Rattle.paper.specs.declared.Values.{Values}
 use Rattle.paper.specs.declared.Registers.{Registers}
-use Rattle.paper.specs.Strings.{Dig, nought, Memo, u1, v1, u2, ei, Str, leaf, node, entry, memo, enc, digest, memorandum, memorandumForms, WellFormed, blank, recordForms, parentForms, H, up, upForms, foldUp, foldForms}
+use Rattle.paper.specs.Strings.{Dig, nought, Memo, u1, v1, u2, ei, Str, leaf, node, entry, memoString, enc, digestOf, memorandum, memorandumForms, StringFits, blank, recordForms, parentForms, H, up, upForms, foldUp, foldForms}
 use Rattle.paper.specs.Requests as Q
 use Rattle.paper.specs.Requests.{Request}
-use Rattle.paper.specs.Refusals.{Check, top, nextRecord, clearedRecord, placeForms, placeSays, tried, leafOf, leafForms, changeForms, changeSays, needs, those, formsAll, applies, formedAt, Verdict, refused, passed, formedBy, judge, numbersBefore}
+use Rattle.paper.specs.Refusals.{Check, top, nextRecord, clearedRecord, placeForms, placeSays, tried, leafOf, leafForms, changeForms, changeSays, needs, those, formsAll, applies, formedAt, Verdict, refusedBy, allPassed, formedBy, judge, numbersBefore}
 use Rattle.paper.specs.Answers.{answer}
-use Rattle.paper.specs.Module.{Told, told}
+use Rattle.paper.specs.Module.{Told, toldBy}
 use Rattle.rings.proofs.Bridge.{record-32, parent-32}
 use Rattle.rings.proofs.Paths.{AllWide, fold-up-32}
 use Rattle.paper.proofs.Early.{late}
@@ -29,10 +29,10 @@ use Rattle.runs.proofs.Widths.{Is32, Wide}
 
 abbrev pub Well : List Str → Type 0
 Well [] = Unit {0}
-Well (s ∷ l) = WellFormed s × Well l
+Well (s ∷ l) = StringFits s × Well l
 
-pub well-at : (l : List Str) (s : Str) → Well l → List·Memᴰ s l → WellFormed s
-well-at (t ∷ l) s h (List·Memᴰ·head e) = subst WellFormed (sym e) (h .0)
+pub well-at : (l : List Str) (s : Str) → Well l → List·Memᴰ s l → StringFits s
+well-at (t ∷ l) s h (List·Memᴰ·head e) = subst StringFits (sym e) (h .0)
 well-at (t ∷ l) s h (List·Memᴰ·tail m) = well-at l s (h .1) m
 
 pub well-append : (a b : List Str) → Well a → Well b → Well (a ++ b)
@@ -68,19 +68,19 @@ well-judged (n ∷ ns) fs cs h k =
     step (applies n cs) here (well-judged ns (formedAt n cs ++ fs) cs h here)
   where
     step : (b : Bool) → Well (formedAt n cs ++ fs) → Well (formedBy (judge ns (formedAt n cs ++ fs) cs))
-        → Well (formedBy (pick b (refused n (formedAt n cs ++ fs)) (judge ns (formedAt n cs ++ fs) cs)))
+        → Well (formedBy (pick b (refusedBy n (formedAt n cs ++ fs)) (judge ns (formedAt n cs ++ fs) cs)))
     step true i j = i
     step false i j = j
 
 module _ (D : List ℕ → Dig) (D32 : (l : List ℕ) → length (D l) ≡ 32) where
-  abbrev d32 : (s : Str) → Is32 (digest D s)
+  abbrev d32 : (s : Str) → Is32 (digestOf D s)
   d32 s = D32 (enc s)
 
   -- ── what the definitions form ──
 
   -- a memorandum's fields are sound; its strings, with those before it
   abbrev WellMemo : Memo → Dig → Type 0
-  WellMemo t k = WellFormed (memo t k)
+  WellMemo t k = StringFits (memoString t k)
 
   well-memo : (t : Memo) (k : Dig) (l : List Str) → WellMemo t k → Well l → Well (memorandumForms D t k ++ l)
   well-memo t k l h i = (h, i)
@@ -133,14 +133,14 @@ module _ (D : List ℕ → Dig) (D32 : (l : List ℕ) → length (D l) ≡ 32) w
 
   -- the answer to a request whose line is read
   abbrev answered : Registers → (kind : ℕ) → Request → Told
-  answered s kind q = told D s kind q (judge late [] (needs D s q))
+  answered s kind q = toldBy D s kind q (judge late [] (needs D s q))
 
   -- Where no string is formed: an opening, and a set at the counter's top.
   opening : (s : Registers) (kind : ℕ) (k : Dig) → answered s kind (Q.unlock k) .formed ≡ []
   opening s kind k = by-tests (s .opened) (allZero k)
     where
       by-tests : (b c : Bool)
-          → told D s kind (Q.unlock k) (pick (either b false) (refused 14 []) (pick (either c false) (refused 12 []) (passed [])))
+          → toldBy D s kind (Q.unlock k) (pick (either b false) (refusedBy 14 []) (pick (either c false) (refusedBy 12 []) (allPassed [])))
           .formed ≡ []
       by-tests true c = refl
       by-tests false true = refl
@@ -153,12 +153,12 @@ module _ (D : List ℕ → Dig) (D32 : (l : List ℕ) → length (D l) ≡ 32) w
 
   -- behind such numbers a check of one more applies
   stopped : (s : Registers) (kind : ℕ) (q : Request) (ns : List ℕ) (n : ℕ) (rest : List ℕ) (cs : List Check) → Formless ns cs
-      → formedAt n cs ≡ [] → applies n cs ≡ true → told D s kind q (judge (ns ++ (n ∷ rest)) [] cs) .formed ≡ []
+      → formedAt n cs ≡ [] → applies n cs ≡ true → toldBy D s kind q (judge (ns ++ (n ∷ rest)) [] cs) .formed ≡ []
   stopped s kind q [] n rest cs f g a = rw (a, g) refl
   stopped s kind q (i ∷ ns) n rest cs f g a = rw (f .0) (step (applies i cs) (stopped s kind q ns n rest cs (f .1) g a))
     where
-      step : (b : Bool) → told D s kind q (judge (ns ++ (n ∷ rest)) [] cs) .formed ≡ []
-          → told D s kind q (pick b (refused i []) (judge (ns ++ (n ∷ rest)) [] cs)) .formed ≡ []
+      step : (b : Bool) → toldBy D s kind q (judge (ns ++ (n ∷ rest)) [] cs) .formed ≡ []
+          → toldBy D s kind q (pick b (refusedBy i []) (judge (ns ++ (n ∷ rest)) [] cs)) .formed ≡ []
       step true h = refl
       step false h = h
 
@@ -173,7 +173,7 @@ module _ (D : List ℕ → Dig) (D32 : (l : List ℕ) → length (D l) ≡ 32) w
   -- is well formed.
   data Forms (s : Registers) (q : Request) : Type 0 where
     none-at-all : ((kind : ℕ) → answered s kind q .formed ≡ []) → Forms s q
-    of-checks : (s .opened ≡ false → judge late [] (needs D s q) ≡ refused 13 []) → (Is32 (s .secret) → WellChecks (needs D s q))
+    of-checks : (s .opened ≡ false → judge late [] (needs D s q) ≡ refusedBy 13 []) → (Is32 (s .secret) → WellChecks (needs D s q))
         → Forms s q
 
   -- ── every kind ──
@@ -252,7 +252,7 @@ module _ (D : List ℕ → Dig) (D32 : (l : List ℕ) → length (D l) ≡ 32) w
         of-checks (λ o. rw o refl) (λ k.
         let leaf-well = well-leaf A A′ r (w .1) (w .2) (w .3) in
         tt and tt and tt and tt and tt and tt
-        and says-after (leafForms D A A′ r) (v1 (digest D (leafOf D A A′ r)) y) m leaf-well (d32 _ and w .4 and k and tt)
+        and says-after (leafForms D A A′ r) (v1 (digestOf D (leafOf D A A′ r)) y) m leaf-well (d32 _ and w .4 and k and tt)
         and tt and tt)
     forms (Q.askNone q) c w = of-checks (λ o. rw o refl) (λ k. tt and tt and tt and tt)
     forms (Q.unlock n) c w = none-at-all (λ kind. opening s kind n)
@@ -280,7 +280,7 @@ module _ (D : List ℕ → Dig) (D32 : (l : List ℕ) → length (D l) ≡ 32) w
     well-answer (Q.swap x1 x2 y y′ m) k w = well-memo (ei y y′) key [] (w .2 and w .3 and k and tt) tt
     well-answer (Q.first A) k w =
         let x = leaf A A nought in
-        well-memo (ei nought (digest D x)) key (x ∷ []) (refl and d32 x and k and tt) ((w and w and refl and tt) and tt)
+        well-memo (ei nought (digestOf D x)) key (x ∷ []) (refl and d32 x and k and tt) ((w and w and refl and tt) and tt)
     well-answer (Q.place A A′ B′ ω y y′ m) k w = well-memo (ei y y′) key [] (w .4 and w .5 and k and tt) tt
     well-answer (Q.turn x y m) k w = well-memo (ei y x) key [] (w .1 and w .0 and k and tt) tt
     well-answer (Q.chain x y m1 z m2) k w = well-memo (ei x z) key [] (w .0 and w .2 and k and tt) tt
@@ -299,14 +299,14 @@ module _ (D : List ℕ → Dig) (D32 : (l : List ℕ) → length (D l) ≡ 32) w
       where
         by-forms : Forms s q → answered s kind q .formed ≡ []
         by-forms (none-at-all e) = e kind
-        by-forms (of-checks e h) = ap (λ (v : Verdict). told D s kind q v .formed) (e o)
+        by-forms (of-checks e h) = ap (λ (v : Verdict). toldBy D s kind q v .formed) (e o)
 
     pub well-formed : (kind : ℕ) (q : Request) → InEightBytes (s .counter .0) → Is32 key → Wide q → Well (answered s kind q .formed)
     well-formed kind q c k w = by-forms (forms q c w)
       where
-        by-verdict : (v : Verdict) → Well (formedBy v) → Well (told D s kind q v .formed)
-        by-verdict (refused n fs) h = h
-        by-verdict (passed fs) h = well-append (answer D s q .forms) fs (well-answer q k w) h
+        by-verdict : (v : Verdict) → Well (formedBy v) → Well (toldBy D s kind q v .formed)
+        by-verdict (refusedBy n fs) h = h
+        by-verdict (allPassed fs) h = well-append (answer D s q .forms) fs (well-answer q k w) h
 
         by-forms : Forms s q → Well (answered s kind q .formed)
         by-forms (none-at-all e) = subst Well (sym (e kind)) tt

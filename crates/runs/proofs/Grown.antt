@@ -9,7 +9,7 @@ use borrow.Author.Tests.{eqb-true}
 use Rattle.seqs.specs.Choose.{pick}
 use Rattle.paper.specs.declared.Record.{Record}
 use Rattle.paper.specs.Strings.{Dig, nought, emptyRecord, recordHash}
-use Rattle.rings.specs.Trees.{Leaf, points, Tree, empty, tip, branch, leaves, one, count, Permuted}
+use Rattle.rings.specs.Trees.{TreeLeaf, points, Tree, empty, tip, branch, leaves, one, count, Permuted}
 use Rattle.rings.specs.Lists.{ListItem, itemWith, OnList, Unlisted, insert, remove, putRecord, ring}
 use Rattle.rings.proofs.Counting.{count-nil, count-append, count-only}
 use Rattle.rings.proofs.Gaps.{gap-holds}
@@ -24,16 +24,16 @@ use Rattle.runs.proofs.Standing.{InRing, Ground, once, spotted, of-item
 use Rattle.runs.proofs.Moves.{two-items, gap-found}
 use Rattle.runs.proofs.Removes.{no-record-hash, Linked, linked-in, other-leaf, fork-of}
 
-pub leaf-is : (x : Leaf) (A B : ℕ) (v : Dig) → A ≡ itemOf x → B ≡ nextOf x → v ≡ hashIn x → x ≡ points A B v
+pub leaf-is : (x : TreeLeaf) (A B : ℕ) (v : Dig) → A ≡ itemOf x → B ≡ nextOf x → v ≡ hashIn x → x ≡ points A B v
 leaf-is (points A B v) A′ B′ v′ e f h = λ i. points (sym e i) (sym f i) (sym h i)
 
-single : (v x : Leaf) → count v (x ∷ []) ≡ one v x
+single : (v x : TreeLeaf) → count v (x ∷ []) ≡ one v x
 single v x = count-only v x (x ∷ []) refl
 
 module _ {D : List ℕ → Dig} {w : World} {T : Tree} (g : Ground D w T) where
   -- ── leaves replaced, counted ──
 
-  one-count : (p : Leaf → Bool) (X : Tree) → has p T ≡ true → (v : Leaf)
+  one-count : (p : TreeLeaf → Bool) (X : Tree) → has p T ≡ true → (v : TreeLeaf)
       → count v (leaves (regrown (replacing (found p T) X) T)) + one v (found p T) ≡ count v (leaves T) + count v (leaves X)
   one-count p X have v =
       let x = found p T in
@@ -44,7 +44,7 @@ module _ {D : List ℕ → Dig} {w : World} {T : Tree} (g : Ground D w T) where
       ap (λ (t : Tree). count v (leaves t)) (sym at) ∙ count-plug v (wayTo p T) (tip x) in
       omega (arith, new, old, single v x)
 
-  two-count : (x y : Leaf) (X Y : Tree) (f : Fork) → x ≢ y → Forks f x y T → (v : Leaf)
+  two-count : (x y : TreeLeaf) (X Y : Tree) (f : Fork) → x ≢ y → Forks f x y T → (v : TreeLeaf)
       → count v (leaves (regrown (replacingTwo x X y Y) T)) + one v x + one v y
       ≡ count v (leaves T) + count v (leaves X) + count v (leaves Y)
   two-count x y X Y f apart fork v =

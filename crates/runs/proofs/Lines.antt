@@ -13,8 +13,8 @@ use Rattle.hex.proofs.Laws.{value-small}
 use Rattle.paper.specs.declared.Registers.{Registers}
 use Rattle.paper.specs.Strings.{Dig, Str}
 use Rattle.paper.specs.Requests.{Request, kindOf, known, fits, requestOf}
-use Rattle.paper.specs.Refusals.{replyRoom, isHex, Check, needs, formedAt, Verdict, refused, passed, formedBy, judge}
-use Rattle.paper.specs.Module.{Told, told, answerTo}
+use Rattle.paper.specs.Refusals.{replyRoom, isHex, Check, needs, formedAt, Verdict, refusedBy, allPassed, formedBy, judge}
+use Rattle.paper.specs.Module.{Told, toldBy, answerTo}
 use Rattle.paper.proofs.Early.{late, numbered-late, none-early}
 use Rattle.rings.specs.Meanings.{Within}
 use Rattle.runs.specs.Run.{LineTurn}
@@ -28,8 +28,8 @@ line-bytes (a ∷ []) = tt
 line-bytes (a ∷ b ∷ l) = (omega (arith, value-small a, value-small b), line-bytes l)
 
 isPassed : Verdict → Bool
-isPassed (refused n fs) = false
-isPassed (passed fs) = true
+isPassed (refusedBy n fs) = false
+isPassed (allPassed fs) = true
 
 -- the request of a line, and its kind
 abbrev pub asked : LineTurn → Request
@@ -49,29 +49,29 @@ module _ (D : List ℕ → Dig) (s : Registers) (line : List ℕ) (space : ℕ) 
   cs = needs D s q
 
   pub data Sorted : Type 0 where
-    refusal : (n : ℕ) (fs : List Str) → (n ≡ 0 → ⊥) → answerTo D s line space ≡ told D s (kindOf f) q (refused n fs)
-        → (fs ≡ []) ⊎ (Wide q × (judge late [] cs ≡ refused n fs)) → Sorted
-    acceptance : (fs : List Str) → answerTo D s line space ≡ told D s (kindOf f) q (passed fs) → Wide q
-        → judge late [] cs ≡ passed fs → NoneApplies cs → ((n : ℕ) → Within (formedAt n cs) fs) → Sorted
+    refusal : (n : ℕ) (fs : List Str) → (n ≡ 0 → ⊥) → answerTo D s line space ≡ toldBy D s (kindOf f) q (refusedBy n fs)
+        → (fs ≡ []) ⊎ (Wide q × (judge late [] cs ≡ refusedBy n fs)) → Sorted
+    acceptance : (fs : List Str) → answerTo D s line space ≡ toldBy D s (kindOf f) q (allPassed fs) → Wide q
+        → judge late [] cs ≡ allPassed fs → NoneApplies cs → ((n : ℕ) → Within (formedAt n cs) fs) → Sorted
 
   -- ── a line that is read ──
 
   -- where no check of the line or of its frame fails, it is answered as its request is
   pub read-is : ltb space replyRoom ≡ false → isHex line .fails ≡ false → known (kindOf f) ≡ true → fits f ≡ true
-      → answerTo D s line space ≡ told D s (kindOf f) q (judge late [] cs)
+      → answerTo D s line space ≡ toldBy D s (kindOf f) q (judge late [] cs)
   unfolding answerTo
   read-is h i j k = let e = none-early D s q in rw (h, i, j, k, e .of-15, e .of-1, e .of-2, e .of-3) refl
 
-  by-verdict : (v : Verdict) → judge late [] cs ≡ v → Wide q → answerTo D s line space ≡ told D s (kindOf f) q v → Sorted
+  by-verdict : (v : Verdict) → judge late [] cs ≡ v → Wide q → answerTo D s line space ≡ toldBy D s (kindOf f) q v → Sorted
   unfolding isPassed
-  by-verdict (refused n fs) j h e = refusal n fs zero-not e (inr (h, j))
+  by-verdict (refusedBy n fs) j h e = refusal n fs zero-not e (inr (h, j))
     where
       zero-not : n ≡ 0 → ⊥
       zero-not z =
-          let p = accepted-passed D s (kindOf f) q late cs refl (ap (λ (v : Verdict). told D s (kindOf f) q v .refusal) j ∙ z) in
+          let p = accepted-passed D s (kindOf f) q late cs refl (ap (λ (v : Verdict). toldBy D s (kindOf f) q v .refusal) j ∙ z) in
           true≢false (ap isPassed (sym (judge-passed late [] cs p) ∙ j))
-  by-verdict (passed fs) j h e =
-      let p = accepted-passed D s (kindOf f) q late cs refl (ap (λ (v : Verdict). told D s (kindOf f) q v .refusal) j) in
+  by-verdict (allPassed fs) j h e =
+      let p = accepted-passed D s (kindOf f) q late cs refl (ap (λ (v : Verdict). toldBy D s (kindOf f) q v .refusal) j) in
       let all = numbered-late D s q in
       acceptance fs e h j (none-applies late cs p all)
       (λ n x m.
@@ -79,17 +79,17 @@ module _ (D : List ℕ → Dig) (s : Registers) (line : List ℕ) (space : ℕ) 
 
   -- ── any line ──
 
-  no-room : ltb space replyRoom ≡ true → answerTo D s line space ≡ told D s (kindOf f) q (refused 15 [])
+  no-room : ltb space replyRoom ≡ true → answerTo D s line space ≡ toldBy D s (kindOf f) q (refusedBy 15 [])
   unfolding answerTo
   no-room h = rw (h, none-early D s q .of-15) refl
 
   no-digits : ltb space replyRoom ≡ false → isHex line .fails ≡ true
-      → answerTo D s line space ≡ told D s (kindOf f) q (refused 1 [])
+      → answerTo D s line space ≡ toldBy D s (kindOf f) q (refusedBy 1 [])
   unfolding answerTo
   no-digits h i = let e = none-early D s q in rw (h, i, e .of-15, e .of-1) refl
 
   no-kind : ltb space replyRoom ≡ false → isHex line .fails ≡ false → known (kindOf f) ≡ false
-      → answerTo D s line space ≡ told D s (kindOf f) q (refused 2 [])
+      → answerTo D s line space ≡ toldBy D s (kindOf f) q (refusedBy 2 [])
   unfolding answerTo
   no-kind h i j = let e = none-early D s q in rw (h, i, j, e .of-15, e .of-1, e .of-2) refl
 
@@ -110,7 +110,7 @@ module _ (D : List ℕ → Dig) (s : Registers) (line : List ℕ) (space : ℕ) 
   pub accepted-known : answerTo D s line space .refusal ≡ 0 → known (kindOf f) ≡ true
   accepted-known z = go (ltb space replyRoom) (isHex line .fails) (known (kindOf f)) refl refl refl
     where
-      not-refused : (n : ℕ) → (n ≡ 0 → ⊥) → answerTo D s line space ≡ told D s (kindOf f) q (refused n [])
+      not-refused : (n : ℕ) → (n ≡ 0 → ⊥) → answerTo D s line space ≡ toldBy D s (kindOf f) q (refusedBy n [])
           → known (kindOf f) ≡ true
       not-refused n h e = absurd (h (sym (ap (λ (a : Told). a .refusal) e) ∙ z))
 

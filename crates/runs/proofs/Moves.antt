@@ -8,7 +8,7 @@ use borrow.Author.Tests.{eqb-true}
 use Rattle.seqs.specs.Choose.{pick, _and_}
 use Rattle.paper.specs.declared.Record.{Record}
 use Rattle.paper.specs.declared.Registers.{Registers}
-use Rattle.paper.specs.Strings.{Dig, nought, emptyRecord, u2, leaf, digest, recordHash, H}
+use Rattle.paper.specs.Strings.{Dig, nought, emptyRecord, u2, leaf, digestOf, recordHash, H}
 use Rattle.paper.specs.Requests as Q
 use Rattle.paper.specs.Refusals.{noneFits}
 use Rattle.paper.specs.Answers as Does
@@ -135,7 +135,7 @@ module _ {D : List ℕ → Dig} {w : World} {T : Tree} (g : Ground D w T) where
       let hω = subst IsDigest (t .hash-is) (record-digest DD (t .held)) in
       let y = without D s f B A B′ ω in
       let hy = without-is (g .ready) f B A B′ ω in
-      let root : y .becomes ≡ s .root = ap (rise D p) (parent-nought (digest D (leaf B B′ ω)) ∙ leaf-digest D x) ∙ t .to-root in
+      let root : y .becomes ≡ s .root = ap (rise D p) (parent-nought (digestOf D (leaf B B′ ω)) ∙ leaf-digest D x) ∙ t .to-root in
       let h = place-lines (g .ready) f B A B′ ω (g .fits B (t .held) (t .listed) .number-fits) small (t .next-fits) hω
       (above-zero g B (t .held) (t .listed)) positive (t .next-positive) (t .passes) in
       let k = turn-last (g .ready) (placed D s f B A B′ ω) y (removal A ∷ []) hy h in

@@ -9,7 +9,7 @@ use native.Mathlib.Decide.{decLt}
 use native.Mathlib.Omega.{arith}
 use Rattle.seqs.specs.Choose.{pick, either, either-yes}
 use Rattle.paper.specs.Strings.{Dig, H}
-use Rattle.rings.specs.Trees.{Leaf, Leaf-discrete, Tree, empty, tip, branch, leaves, hashOf, count}
+use Rattle.rings.specs.Trees.{TreeLeaf, TreeLeaf-discrete, Tree, empty, tip, branch, leaves, hashOf, count}
 use Rattle.rings.proofs.Counting.{count-nil, count-append, count-single, count-head}
 use Rattle.runs.specs.Ways.{Level, onLeft, onRight, Way, has, found, wayTo, rise, Fork, under, forkOf, leftOne, rightOne, regrown, ifYes, replacing, replacingTwo}
 
@@ -44,9 +44,9 @@ rise-two D f X Y =
 
 -- ── found by a test ──
 
-module _ (p : Leaf → Bool) where
+module _ (p : TreeLeaf → Bool) where
   -- a leaf that occurs and passes
-  pub has-it : (x : Leaf) (T : Tree) → p x ≡ true → 0 < count x (leaves T) → has p T ≡ true
+  pub has-it : (x : TreeLeaf) (T : Tree) → p x ≡ true → 0 < count x (leaves T) → has p T ≡ true
   has-it x empty e h = absurd (omega (arith, count-nil x))
   has-it x (tip y) e h = let q = count-single x y h in ap p (sym q) ∙ e
   has-it x (branch l r) e h =
@@ -85,10 +85,10 @@ module _ (p : Leaf → Bool) where
 
 -- ── two leaves under their fork ──
 
-abbrev pub Forks : Fork → (x y : Leaf) → Tree → Type 0
+abbrev pub Forks : Fork → (x y : TreeLeaf) → Tree → Type 0
 Forks f x y T = plug-two f (leftOne f (tip x) (tip y)) (rightOne f (tip x) (tip y)) ≡ T
 
-module _ (p q : Leaf → Bool) where
+module _ (p q : TreeLeaf → Bool) where
   pub forked : (T : Tree) → has p T ≡ true → has q T ≡ true → found p T ≢ found q T
       → Forks (forkOf p q T) (found p T) (found q T) T
   forked empty h k n = absurd (true≢false (sym h))
@@ -115,21 +115,21 @@ module _ (p q : Leaf → Bool) where
 -- ── how often a leaf occurs ──
 
 -- beside a way
-abbrev pub around : Leaf → Way → ℕ
+abbrev pub around : TreeLeaf → Way → ℕ
 around z [] = 0
 around z (onLeft S ∷ p) = count z (leaves S) + around z p
 around z (onRight S ∷ p) = count z (leaves S) + around z p
 
-pub count-plug : (z : Leaf) (p : Way) (X : Tree) → count z (leaves (plug p X)) ≡ count z (leaves X) + around z p
+pub count-plug : (z : TreeLeaf) (p : Way) (X : Tree) → count z (leaves (plug p X)) ≡ count z (leaves X) + around z p
 count-plug z [] X = omega arith
 count-plug z (onLeft S ∷ p) X = omega (arith, count-plug z p (branch S X), count-append z (leaves S) (leaves X))
 count-plug z (onRight S ∷ p) X = omega (arith, count-plug z p (branch X S), count-append z (leaves X) (leaves S))
 
 -- beside a fork
-abbrev aroundTwo : Leaf → Fork → ℕ
+abbrev aroundTwo : TreeLeaf → Fork → ℕ
 aroundTwo z f = around z (f .left) + around z (f .right) + around z (f .above)
 
-pub count-two : (z : Leaf) (f : Fork) (X Y : Tree)
+pub count-two : (z : TreeLeaf) (f : Fork) (X Y : Tree)
     → count z (leaves (plug-two f X Y)) ≡ count z (leaves X) + count z (leaves Y) + aroundTwo z f
 count-two z f X Y =
     omega (
@@ -142,16 +142,16 @@ count-two z f X Y =
 
 -- ── leaves replaced ──
 
-module _ (g : Leaf → Tree) where
+module _ (g : TreeLeaf → Tree) where
   -- a tree stays where no leaf of it is replaced
-  stays : (T : Tree) → ((v : Leaf) → 0 < count v (leaves T) → g v ≡ tip v) → regrown g T ≡ T
+  stays : (T : Tree) → ((v : TreeLeaf) → 0 < count v (leaves T) → g v ≡ tip v) → regrown g T ≡ T
   stays empty k = refl
   stays (tip z) k = k z (count-head z z [] refl)
   stays (branch l r) k =
       ap₂ (λ (t u : Tree). branch t u) (stays l (λ v h. k v (omega (arith, h, count-append v (leaves l) (leaves r)))))
       (stays r (λ v h. k v (omega (arith, h, count-append v (leaves l) (leaves r)))))
 
-  regrown-plug : (p : Way) (X : Tree) → ((v : Leaf) → 0 < around v p → g v ≡ tip v) → regrown g (plug p X) ≡ plug p (regrown g X)
+  regrown-plug : (p : Way) (X : Tree) → ((v : TreeLeaf) → 0 < around v p → g v ≡ tip v) → regrown g (plug p X) ≡ plug p (regrown g X)
   regrown-plug [] X k = refl
   regrown-plug (onLeft S ∷ p) X k =
       regrown-plug p (branch S X) (λ v h. k v (omega (arith, h)))
@@ -160,7 +160,7 @@ module _ (g : Leaf → Tree) where
       regrown-plug p (branch X S) (λ v h. k v (omega (arith, h)))
       ∙ ap (λ (t : Tree). plug p (branch (regrown g X) t)) (stays S (λ v h. k v (omega (arith, h))))
 
-  regrown-fork : (f : Fork) (a b : Leaf) → ((v : Leaf) → 0 < aroundTwo v f → g v ≡ tip v)
+  regrown-fork : (f : Fork) (a b : TreeLeaf) → ((v : TreeLeaf) → 0 < aroundTwo v f → g v ≡ tip v)
       → regrown g (plug-two f (tip a) (tip b)) ≡ plug-two f (g a) (g b)
   regrown-fork f a b k =
       regrown-plug (f .above) (branch (plug (f .left) (tip a)) (plug (f .right) (tip b))) (λ v h. k v (omega (arith, h)))
@@ -177,12 +177,12 @@ if-no (yes e) X Y n = absurd (n e)
 if-no (no k) X Y n = refl
 
 -- one leaf that occurs once
-module _ (x : Leaf) (X : Tree) where
+module _ (x : TreeLeaf) (X : Tree) where
   pub regrown-one : (p : Way) (T : Tree) → plug p (tip x) ≡ T → count x (leaves T) ≤ 1 → regrown (replacing x X) T ≡ plug p X
   regrown-one p T e once =
       ap (regrown (replacing x X)) (sym e) ∙ regrown-plug (replacing x X) p (tip x)
-      (λ v h. if-no (Leaf-discrete v x) X (tip v) (λ q. twice (subst (λ (u : Leaf). 0 < around u p) q h)))
-      ∙ ap (plug p) (if-yes (Leaf-discrete x x) X (tip x) refl)
+      (λ v h. if-no (TreeLeaf-discrete v x) X (tip v) (λ q. twice (subst (λ (u : TreeLeaf). 0 < around u p) q h)))
+      ∙ ap (plug p) (if-yes (TreeLeaf-discrete x x) X (tip x) refl)
     where
       twice : 0 < around x p → ⊥
       twice h =
@@ -190,37 +190,37 @@ module _ (x : Leaf) (X : Tree) where
           omega (arith, h, count-plug x p (tip x), count-head x x [] refl)
 
 -- two leaves that occur once each
-module _ (x : Leaf) (X : Tree) (y : Leaf) (Y : Tree) (apart : x ≢ y) where
+module _ (x : TreeLeaf) (X : Tree) (y : TreeLeaf) (Y : Tree) (apart : x ≢ y) where
   first-replaced : replacingTwo x X y Y x ≡ X
-  first-replaced = if-yes (Leaf-discrete x x) X _ refl
+  first-replaced = if-yes (TreeLeaf-discrete x x) X _ refl
 
   second-replaced : replacingTwo x X y Y y ≡ Y
-  second-replaced = if-no (Leaf-discrete y x) X _ (λ e. apart (sym e)) ∙ if-yes (Leaf-discrete y y) Y (tip y) refl
+  second-replaced = if-no (TreeLeaf-discrete y x) X _ (λ e. apart (sym e)) ∙ if-yes (TreeLeaf-discrete y y) Y (tip y) refl
 
-  both-kept : (v : Leaf) → v ≢ x → v ≢ y → replacingTwo x X y Y v ≡ tip v
-  both-kept v n m = if-no (Leaf-discrete v x) X _ n ∙ if-no (Leaf-discrete v y) Y (tip v) m
+  both-kept : (v : TreeLeaf) → v ≢ x → v ≢ y → replacingTwo x X y Y v ≡ tip v
+  both-kept v n m = if-no (TreeLeaf-discrete v x) X _ n ∙ if-no (TreeLeaf-discrete v y) Y (tip v) m
 
   pub regrown-two : (f : Fork) (T : Tree) → Forks f x y T → count x (leaves T) ≤ 1 → count y (leaves T) ≤ 1
       → regrown (replacingTwo x X y Y) T ≡ plug-two f (leftOne f X Y) (rightOne f X Y)
   regrown-two f T e ox oy = by-side (f .crossed) e
     where
       -- neither stands beside the fork
-      beside-not : (v a b : Leaf) → plug-two f (tip a) (tip b) ≡ T → count v (leaves T) ≤ 1
+      beside-not : (v a b : TreeLeaf) → plug-two f (tip a) (tip b) ≡ T → count v (leaves T) ≤ 1
           → 0 < count v (a ∷ []) + count v (b ∷ [])
           → 0 < aroundTwo v f → ⊥
       beside-not v a b q once there h =
           let c : count v (leaves (plug-two f (tip a) (tip b))) ≤ 1 = rw q once in
           omega (arith, h, there, count-two v f (tip a) (tip b))
 
-      at-feet : (a b : Leaf) → plug-two f (tip a) (tip b) ≡ T → 0 < count x (a ∷ []) + count x (b ∷ [])
+      at-feet : (a b : TreeLeaf) → plug-two f (tip a) (tip b) ≡ T → 0 < count x (a ∷ []) + count x (b ∷ [])
           → 0 < count y (a ∷ []) + count y (b ∷ []) → regrown (replacingTwo x X y Y) T
           ≡ plug-two f (replacingTwo x X y Y a) (replacingTwo x X y Y b)
       at-feet a b q hx hy =
           ap (regrown (replacingTwo x X y Y)) (sym q)
           ∙ regrown-fork (replacingTwo x X y Y) f a b
           (λ v h.
-          both-kept v (λ r. beside-not x a b q ox hx (subst (λ (u : Leaf). 0 < aroundTwo u f) r h))
-          (λ r. beside-not y a b q oy hy (subst (λ (u : Leaf). 0 < aroundTwo u f) r h)))
+          both-kept v (λ r. beside-not x a b q ox hx (subst (λ (u : TreeLeaf). 0 < aroundTwo u f) r h))
+          (λ r. beside-not y a b q oy hy (subst (λ (u : TreeLeaf). 0 < aroundTwo u f) r h)))
 
       here-x : 0 < count x (x ∷ [])
       here-x = count-head x x [] refl

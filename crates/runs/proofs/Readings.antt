@@ -9,8 +9,8 @@ use lib.ListN.{length}
 use Rattle.seqs.specs.Choose.{either, either-no}
 use Rattle.seqs.specs.Bytes.{same}
 use Rattle.paper.specs.declared.Registers.{Registers}
-use Rattle.paper.specs.Strings.{Dig, Str, digest}
-use Rattle.paper.specs.Refusals.{carried}
+use Rattle.paper.specs.Strings.{Dig, Str, digestOf}
+use Rattle.paper.specs.Refusals.{carriedMemoranda}
 use Rattle.paper.specs.Answers.{Effect, none′, issues, adopts, changes}
 use Rattle.paper.specs.Module.{Told, answerTo}
 use Rattle.rings.specs.Meanings.{StandsFor, Fault}
@@ -101,12 +101,12 @@ module _ (D : List ℕ → Dig) (D32 : (l : List ℕ) → length (D l) ≡ 32) w
     where
       by-out : Out D D32 by v (asked t) (toldAt D v t) → Ending D k (t ∷ ts) ⊎ Core D D32 (next D by v t)
       by-out (inl (inl f)) =
-          inl (shown D D32 k (t ∷ ts) (subst (Fault (digest D)) (alike-next D by ofRuns v (after D k ts) t a .formed) f))
+          inl (shown D D32 k (t ∷ ts) (subst (Fault (digestOf D)) (alike-next D by ofRuns v (after D k ts) t a .formed) f))
       by-out (inl (inr x)) =
           inl (byForgery t (record {
             accepted = ap (λ (y : Told). y .refusal) (sym (told-alike D v (after D k ts) t a)) ∙ x .0;
             memorandum = x .1 .0;
-            carries = subst (λ (r : Registers). List·Memᴰ (x .1 .0) (carried D r (asked t))) (a .registers) (x .1 .1);
+            carries = subst (λ (r : Registers). List·Memᴰ (x .1 .0) (carriedMemoranda D r (asked t))) (a .registers) (x .1 .1);
             unissued = sym (a .issued (x .1 .0)) ∙ x .1 .2;
           }))
       by-out (inr x) = inr (x .0)
@@ -149,7 +149,7 @@ module _ (D : List ℕ → Dig) (D32 : (l : List ℕ) → length (D l) ≡ 32) w
       instead (shown D D32 k ts)
       (same-list D D32 (after D k ts .formed) (c .tree) (d .tree) (v .items) (after D k ts .items)
       (c .root ∙ ap (λ (r : Registers). r .root) (a .registers) ∙ sym (d .root))
-      (subst (λ (F : List Str). StandsFor (digest D) F (c .tree) (v .items)) (a .formed) (c .stands)) (d .stands))
+      (subst (λ (F : List Str). StandsFor (digestOf D) F (c .tree) (v .items)) (a .formed) (c .stands)) (d .stands))
 
   pub readings-agree : ReadingsAgree D
   readings-agree k ts us = do

@@ -12,10 +12,10 @@ use Rattle.seqs.specs.Choose.{pick}
 use Rattle.seqs.specs.Bytes.{allZero}
 use Rattle.paper.specs.declared.Record.{Record}
 use Rattle.paper.specs.declared.Registers.{Registers}
-use Rattle.paper.specs.Strings.{Dig, nought, emptyRecord, leaf, node, digest, inGap, recordHash, H}
+use Rattle.paper.specs.Strings.{Dig, nought, emptyRecord, leaf, node, digestOf, inGap, recordHash, H}
 use Rattle.paper.specs.Requests as Q
 use Rattle.paper.specs.Answers.{rooted}
-use Rattle.rings.specs.Trees.{Leaf, points, Tree, empty, tip, branch, leaves, hashOf, one, count}
+use Rattle.rings.specs.Trees.{TreeLeaf, points, Tree, empty, tip, branch, leaves, hashOf, one, count}
 use Rattle.rings.specs.Lists.{ListItem, itemWith, OnList, remove, ring}
 use Rattle.rings.specs.Changes.{insertion, removal}
 use Rattle.rings.proofs.Counting.{one-self, one-same, count-nil, count-cons, count-append, count-only}
@@ -48,27 +48,27 @@ module _ (D : List ℕ → Dig) where
   unfolding H
   behind-nought u v e h = by-test (allZero v) refl
     where
-      by-test : (b : Bool) → allZero v ≡ b → pick b u (pick (allZero u) v (digest D (node u v))) ≡ v
+      by-test : (b : Bool) → allZero v ≡ b → pick b u (pick (allZero u) v (digestOf D (node u v))) ≡ v
       by-test true f = e ∙ sym (zero-is-nought v h f)
       by-test false f = rw e refl
 
-  one-hash : (T : Tree) (y : Leaf) → ((t : Tree) → length (hashOf D t) ≡ 32) → ((x : Leaf) → count x (leaves T) ≡ one x y)
+  one-hash : (T : Tree) (y : TreeLeaf) → ((t : Tree) → length (hashOf D t) ≡ 32) → ((x : TreeLeaf) → count x (leaves T) ≡ one x y)
       → hashOf D T ≡ hashOf D (tip y)
   one-hash empty y wide f = absurd (omega (arith, f y, count-nil y, one-self y))
   one-hash (tip z) y wide f =
-      ap (λ (x : Leaf). hashOf D (tip x)) (one-same z y (omega (arith, f z, count-cons z z [], one-self z)))
+      ap (λ (x : TreeLeaf). hashOf D (tip x)) (one-same z y (omega (arith, f z, count-cons z z [], one-self z)))
   one-hash (branch l r) y wide f = by-side (decLt 0 (count y (leaves l))) (one-hash l y wide) (one-hash r y wide)
     where
-      sum : (x : Leaf) → count x (leaves l) + count x (leaves r) ≡ one x y
+      sum : (x : TreeLeaf) → count x (leaves l) + count x (leaves r) ≡ one x y
       sum x = sym (count-append x (leaves l) (leaves r)) ∙ f x
 
       -- a half that does not have y has no leaf
-      none-in : (t : Tree) → count y (leaves t) ≡ 0 → ((x : Leaf) → count x (leaves t) ≤ one x y) → (x : Leaf)
+      none-in : (t : Tree) → count y (leaves t) ≡ 0 → ((x : TreeLeaf) → count x (leaves t) ≤ one x y) → (x : TreeLeaf)
           → count x (leaves t) ≡ 0
       none-in t z most x = elim (decLt 0 (one x y)) [ yes h ↦ rw (one-same x y h) z | no h ↦ omega (arith, most x) ]
 
-      by-side : Dec (0 < count y (leaves l)) → (((x : Leaf) → count x (leaves l) ≡ one x y) → hashOf D l ≡ hashOf D (tip y))
-          → (((x : Leaf) → count x (leaves r) ≡ one x y) → hashOf D r ≡ hashOf D (tip y))
+      by-side : Dec (0 < count y (leaves l)) → (((x : TreeLeaf) → count x (leaves l) ≡ one x y) → hashOf D l ≡ hashOf D (tip y))
+          → (((x : TreeLeaf) → count x (leaves r) ≡ one x y) → hashOf D r ≡ hashOf D (tip y))
           → H D (hashOf D l) (hashOf D r) ≡ hashOf D (tip y)
       by-side (yes h) u v =
           let z = none-in r (omega (arith, sum y, one-self y)) (λ x. omega (arith, sum x)) in
@@ -94,7 +94,7 @@ module _ {D : List ℕ → Dig} {w : World} {T : Tree} (g : Ground D w T) where
       → Brings D w (removeLines D s A T (itemWith a r ∷ [])) (rooted s nought) (remove A (w .items)) (w .changed)
   remove-only A a r m e =
       let y = points A A nought in
-      let only : (x : Leaf) → count x (leaves T) ≡ one x y =
+      let only : (x : TreeLeaf) → count x (leaves T) ≡ one x y =
       λ x. g .holds x ∙ ap (λ (l : Items). count x (ring (recordHash D) l)) e ∙ single x in
       let root : alone D s A .becomes ≡ s .root = sym (one-hash D T y (λ t. tree-digest DD t .wide) only) ∙ g .root in
       let ha = alone-is (g .ready) A in
@@ -103,7 +103,7 @@ module _ {D : List ℕ → Dig} {w : World} {T : Tree} (g : Ground D w T) where
       adopt-last (g .ready) (Q.first A ∷ turnRound D s (alone D s A) ∷ []) (turnedRound (alone D s A)) (removal A ∷ [])
       (record { old = ha .new; new = ha .old }) root k
     where
-      single : (x : Leaf) → count x (points a a (recordHash D r) ∷ []) ≡ one x (points A A nought)
+      single : (x : TreeLeaf) → count x (points a a (recordHash D r) ∷ []) ≡ one x (points A A nought)
       single x =
           let p : itemWith A emptyRecord ≡ itemWith a r =
           elim (List·Memᴰ·cases-cons (rw e at m)) [ inl p ↦ p | inr j ↦ elim j [ ] ] in
@@ -176,10 +176,10 @@ module _ {D : List ℕ → Dig} {w : World} {T : Tree} (g : Ground D w T) where
       let hω = subst IsDigest (tx .hash-is) (record-digest DD (tx .held)) in
       let f = forkOf (leadsTo A) (isOf A) T in
       let y = without D s f B A B′ ω in
-      let x-was : digest D (leaf B A ω) ≡ hashOf D (tip x) =
-      ap (λ (n : ℕ). digest D (leaf B n ω)) (k .before-next) ∙ leaf-digest D x in
-      let z-was : digest D (leaf A B′ nought) ≡ hashOf D (tip z) =
-      ap₂ (λ (n : ℕ) (v : Dig). digest D (leaf n B′ v)) (k .own-item) (k .own-empty) ∙ leaf-digest D z in
+      let x-was : digestOf D (leaf B A ω) ≡ hashOf D (tip x) =
+      ap (λ (n : ℕ). digestOf D (leaf B n ω)) (k .before-next) ∙ leaf-digest D x in
+      let z-was : digestOf D (leaf A B′ nought) ≡ hashOf D (tip z) =
+      ap₂ (λ (n : ℕ) (v : Dig). digestOf D (leaf n B′ v)) (k .own-item) (k .own-empty) ∙ leaf-digest D z in
       let root : y .was ≡ s .root =
       feet g (λ u. u .was) f (relinked D s B A B′ ω) (gone D s A B′) (tip x) (tip z) x-was z-was
       ∙ ap (hashOf D) (fork-of A k) ∙ g .root in

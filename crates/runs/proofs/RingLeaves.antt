@@ -7,15 +7,15 @@ use Prim.Native.Nat.{ℕ, _≤_, _<_}
 use native.Mathlib.Decide.{decLt}
 use native.Mathlib.Omega.{arith}
 use Rattle.paper.specs.Strings.{Dig}
-use Rattle.rings.specs.Trees.{Leaf, points, Leaf-discrete, tick, one, count}
+use Rattle.rings.specs.Trees.{TreeLeaf, points, TreeLeaf-discrete, tick, one, count}
 use Rattle.rings.specs.Lists.{ListItem, itemWith, Ascending, OnList, chainOf, ring}
 use Rattle.rings.proofs.Counting.{one-same, count-nil, count-cons, count-cases, count-single}
 use Rattle.rings.proofs.Ring.{bounds, leaf-item}
 use Rattle.runs.specs.Ways.{itemOf, nextOf, hashIn}
 
-one-most : (x y : Leaf) → one x y ≤ 1
+one-most : (x y : TreeLeaf) → one x y ≤ 1
 unfolding one
-one-most x y = by-test (Leaf-discrete x y)
+one-most x y = by-test (TreeLeaf-discrete x y)
   where
     by-test : (d : Dec (x ≡ y)) → tick d ≤ 1
     by-test (yes e) = omega arith
@@ -24,12 +24,12 @@ one-most x y = by-test (Leaf-discrete x y)
 -- ── leaves that differ in a number ──
 
 -- every leaf of a list has another number, by `of`, than all behind it
-abbrev Lone : (of : Leaf → ℕ) → List Leaf → Type 0
+abbrev Lone : (of : TreeLeaf → ℕ) → List TreeLeaf → Type 0
 Lone of [] = Unit {0}
-Lone of (x ∷ l) = ((y : Leaf) → 0 < count y l → of y ≢ of x) × Lone of l
+Lone of (x ∷ l) = ((y : TreeLeaf) → 0 < count y l → of y ≢ of x) × Lone of l
 
 -- so its number tells a leaf
-lone-same : (of : Leaf → ℕ) (x y : Leaf) (l : List Leaf) → Lone of l → of x ≡ of y → 0 < count x l → 0 < count y l → x ≡ y
+lone-same : (of : TreeLeaf → ℕ) (x y : TreeLeaf) (l : List TreeLeaf) → Lone of l → of x ≡ of y → 0 < count x l → 0 < count y l → x ≡ y
 lone-same of x y [] g e m n = absurd (omega (arith, count-nil x))
 lone-same of x y (z ∷ l) g e m n =
     elim (count-cases x z l m) [
@@ -41,7 +41,7 @@ lone-same of x y (z ∷ l) g e m n =
     ]
 
 -- and none occurs twice
-lone-once : (of : Leaf → ℕ) (x : Leaf) (l : List Leaf) → Lone of l → count x l ≤ 1
+lone-once : (of : TreeLeaf → ℕ) (x : TreeLeaf) (l : List TreeLeaf) → Lone of l → count x l ≤ 1
 lone-once of x [] g = omega (arith, count-nil x)
 lone-once of x (z ∷ l) g =
     elim (decLt 0 (count x l)) [
@@ -57,39 +57,39 @@ module _ {R : Type 0} (h : R → Dig) where
   lone-items a r [] z g = ((λ y k. absurd (omega (arith, count-nil y))), tt)
   lone-items a r (itemWith b s ∷ l) z g = (later, lone-items b s l z (g .1))
     where
-      later : (y : Leaf) → 0 < count y (chainOf h b s l z) → itemOf y ≢ a
+      later : (y : TreeLeaf) → 0 < count y (chainOf h b s l z) → itemOf y ≢ a
       later (points A B w) k e = omega (arith, bounds h A B w b s l z (g .1) k .0, g .0)
 
   lone-nexts : (a : ℕ) (r : R) (l : List (ListItem R)) (z : ℕ) → z ≤ a → Ascending a l → Lone nextOf (chainOf h a r l z)
   lone-nexts a r [] z hz g = ((λ y k. absurd (omega (arith, count-nil y))), tt)
   lone-nexts a r (itemWith b s ∷ l) z hz g = (later, lone-nexts b s l z (omega (arith, g .0)) (g .1))
     where
-      later : (y : Leaf) → 0 < count y (chainOf h b s l z) → nextOf y ≢ b
+      later : (y : TreeLeaf) → 0 < count y (chainOf h b s l z) → nextOf y ≢ b
       later (points A B w) k e =
           let v = bounds h A B w b s l z (g .1) k in
           elim (v .1) [ inl d ↦ omega (arith, v .0) | inr d ↦ omega (arith, v .0, g .0) ]
 
   -- ── leaves of the ring ──
 
-  pub ring-once : (x : Leaf) (ls : List (ListItem R)) → Ascending 0 ls → count x (ring h ls) ≤ 1
+  pub ring-once : (x : TreeLeaf) (ls : List (ListItem R)) → Ascending 0 ls → count x (ring h ls) ≤ 1
   ring-once x [] g = omega (arith, count-nil x)
   ring-once x (itemWith a r ∷ l) g = lone-once itemOf x (chainOf h a r l a) (lone-items a r l a (g .1))
 
   -- no two have one item
-  pub one-of-item : (x y : Leaf) (ls : List (ListItem R)) → Ascending 0 ls → itemOf x ≡ itemOf y → 0 < count x (ring h ls)
+  pub one-of-item : (x y : TreeLeaf) (ls : List (ListItem R)) → Ascending 0 ls → itemOf x ≡ itemOf y → 0 < count x (ring h ls)
       → 0 < count y (ring h ls) → x ≡ y
   one-of-item x y [] g e m n = absurd (omega (arith, count-nil x))
   one-of-item x y (itemWith a r ∷ l) g e m n = lone-same itemOf x y (chainOf h a r l a) (lone-items a r l a (g .1)) e m n
 
   -- and no two lead to one item
-  pub one-to-item : (x y : Leaf) (ls : List (ListItem R)) → Ascending 0 ls → nextOf x ≡ nextOf y → 0 < count x (ring h ls)
+  pub one-to-item : (x y : TreeLeaf) (ls : List (ListItem R)) → Ascending 0 ls → nextOf x ≡ nextOf y → 0 < count x (ring h ls)
       → 0 < count y (ring h ls) → x ≡ y
   one-to-item x y [] g e m n = absurd (omega (arith, count-nil x))
   one-to-item x y (itemWith a r ∷ l) g e m n =
       lone-same nextOf x y (chainOf h a r l a) (lone-nexts a r l a (omega arith) (g .1)) e m n
 
   -- it stands for a listed item
-  pub leaf-held : (x : Leaf) (ls : List (ListItem R)) → 0 < count x (ring h ls) → (s : R) × OnList (itemOf x) s ls × (h s ≡ hashIn x)
+  pub leaf-held : (x : TreeLeaf) (ls : List (ListItem R)) → 0 < count x (ring h ls) → (s : R) × OnList (itemOf x) s ls × (h s ≡ hashIn x)
   leaf-held (points A B w) ls m = leaf-item h A B w ls m
 
   -- and leads to one
@@ -102,7 +102,7 @@ module _ {R : Type 0} (h : R → Dig) where
         | inr k ↦ elim (next-chain A B w b s l z k) [ inl e ↦ inl e | inr t ↦ inr (t .0, List·Memᴰ·tail (t .1)) ]
       ]
 
-  pub leaf-next : (x : Leaf) (ls : List (ListItem R)) → 0 < count x (ring h ls) → (s : R) × OnList (nextOf x) s ls
+  pub leaf-next : (x : TreeLeaf) (ls : List (ListItem R)) → 0 < count x (ring h ls) → (s : R) × OnList (nextOf x) s ls
   leaf-next x [] m = absurd (omega (arith, count-nil x))
   leaf-next (points A B w) (itemWith a r ∷ l) m =
       elim (next-chain A B w a r l a m) [

@@ -7,11 +7,11 @@ use Prim.Native.Nat.{ℕ}
 use lib.ListN.{length}
 use Rattle.sha256.specs.Hash.{sha256}
 use Rattle.sha256.proofs.Digests.{sha256-length}
-use Rattle.paper.specs.Strings.{Dig, digest}
+use Rattle.paper.specs.Strings.{Dig, digestOf}
 use Rattle.paper.specs.Requests.{Request}
-use Rattle.paper.specs.Refusals.{refused}
+use Rattle.paper.specs.Refusals.{refusedBy}
 use Rattle.paper.specs.Answers.{answer}
-use Rattle.paper.specs.Module.{Told, told}
+use Rattle.paper.specs.Module.{Told, toldBy}
 use Rattle.rings.specs.Trees.{empty}
 use Rattle.rings.specs.Meanings.{Fault}
 use Rattle.rings.proofs.Nodes.{_>>=_, instead}
@@ -33,7 +33,7 @@ module _ (D : List ℕ → Dig) (D32 : (l : List ℕ) → length (D l) ≡ 32) w
 
   abbrev pub Out : Reading → World → Request → Told → Type 0
   Out by w q a =
-      (Fault (digest D) (a .formed ++ w .formed) ⊎ ((a .refusal ≡ 0) × Forgery D w q))
+      (Fault (digestOf D) (a .formed ++ w .formed) ⊎ ((a .refusal ≡ 0) × Forgery D w q))
       ⊎ (Core D D32 (landed D by w a) × (a .refusal ≡ 0 → TrueFor D (w .items) q) × LegalEffect D w (a .effect))
 
   -- ── any line ──
@@ -43,7 +43,7 @@ module _ (D : List ℕ → Dig) (D32 : (l : List ℕ) → length (D l) ≡ 32) w
     where
       by-sort : Sorted D (w .registers) (t .line) (t .space) → Out by w (asked t) (toldAt D w t)
       by-sort (refusal n fs z e r) =
-          let a = told D (w .registers) (kindIn t) (asked t) (refused n fs) in
+          let a = toldBy D (w .registers) (kindIn t) (asked t) (refusedBy n fs) in
           subst (Out by w (asked t)) (sym e) (inr (kept-core D D32 by w a refl refl refl c, (λ o. absurd (z o)), tt))
       by-sort (acceptance fs e h j n i) = subst (Out by w (asked t)) (sym e) (do
         let own = answer D (w .registers) (asked t) .forms
@@ -69,7 +69,7 @@ module _ (D : List ℕ → Dig) (D32 : (l : List ℕ) → length (D l) ≡ 32) w
       }
 
   -- a fault among the strings of a run is one of its endings
-  pub shown : (k : Dig) (ts : List LineTurn) → Fault (digest D) (after D k ts .formed) → Ending D k ts
+  pub shown : (k : Dig) (ts : List LineTurn) → Fault (digestOf D) (after D k ts .formed) → Ending D k ts
   shown k ts f =
       elim (fault-shows {D = D} (λ s i. well-at (after D k ts .formed) s (side D D32 k ts .well) i) f) [
         | inl c ↦ byCollision c
@@ -83,7 +83,7 @@ module _ (D : List ℕ → Dig) (D32 : (l : List ℕ) → length (D l) ≡ 32) w
     y ← instead ends (line-out ofRuns (after D k ts) t (x .0))
     inr (y .0, (record { true-answer = λ z. true-answer D (after D k ts) t z (y .1 z); legal = y .2 }, x .1))
     where
-      ends : Fault (digest D) (after D k (t ∷ ts) .formed) ⊎ ((toldAt D (after D k ts) t .refusal ≡ 0) × Forgery D (after D k ts)
+      ends : Fault (digestOf D) (after D k (t ∷ ts) .formed) ⊎ ((toldAt D (after D k ts) t .refusal ≡ 0) × Forgery D (after D k ts)
           (asked t)) → Ending D k (t ∷ ts)
       ends (inl f) = shown k (t ∷ ts) f
       ends (inr x) = byForgery t (record { accepted = x .0; memorandum = x .1 .0; carries = x .1 .1; unissued = x .1 .2 })

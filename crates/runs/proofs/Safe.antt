@@ -14,17 +14,17 @@ use Rattle.seqs.specs.Bytes.{same, same-true}
 use Rattle.paper.specs.declared.Record.{Record}
 use Rattle.paper.specs.declared.Values.{Values}
 use Rattle.paper.specs.declared.Registers.{Registers}
-use Rattle.paper.specs.Strings.{Dig, nought, emptyRecord, Memo, u1, v1, u2, ei, Str, leaf, digest, memorandumForms, malformed, blank, recordForms, inGap, parentForms, foldForms}
+use Rattle.paper.specs.Strings.{Dig, nought, emptyRecord, Memo, u1, v1, u2, ei, Str, leaf, digestOf, memorandumForms, malformed, blank, recordForms, inGap, parentForms, foldForms}
 use Rattle.paper.specs.Requests as Q
 use Rattle.paper.specs.Requests.{Request}
-use Rattle.paper.specs.Refusals.{isRoot, first-memo, nextRecord, clearedRecord, placeForms, placeSays, noneFits, tried, leafOf, leafForms, changeForms, changeSays, needs, those, applies, passed}
+use Rattle.paper.specs.Refusals.{isRoot, first-memo, nextRecord, clearedRecord, placeForms, placeSays, noneFits, tried, leafOf, leafForms, changeForms, changeSays, needs, those, applies, allPassed}
 use Rattle.paper.specs.Answers.{ListChange, none′, issues, changes, answer, findingOf}
-use Rattle.paper.specs.Module.{Told, told}
+use Rattle.paper.specs.Module.{Told, toldBy}
 use Rattle.paper.specs.declared.Finding.the-variants.{Recorded, Listed, Gap}
 use Rattle.paper.proofs.Verdicts.{opposite-false, the-one}
 use Rattle.rings.specs.Trees.{Tree, hashOf}
 use Rattle.rings.specs.Lists.{itemWith}
-use Rattle.rings.specs.Meanings.{Within, Known, known-empty, known-recorded, StandsFor, Means}
+use Rattle.rings.specs.Meanings.{Within, RecordKnown, known-empty, known-recorded, StandsFor, Means}
 use Rattle.rings.proofs.Nodes.{_>>=_, instead}
 use Rattle.rings.proofs.Memos.{stands-more}
 use Rattle.rings.proofs.Bridge.{hash-is, known-by}
@@ -32,7 +32,7 @@ use Rattle.rings.proofs.Paths.{path}
 use Rattle.rings.proofs.TreeKinds as T
 use Rattle.rings.proofs.RingKinds as R
 use Rattle.rings.proofs.InPaper as P
-use Rattle.runs.specs.Run.{Reading, Items, standsFor, meaning, World, landed}
+use Rattle.runs.specs.Run.{Reading, Items, stepsFor, meaning, World, landed}
 use Rattle.runs.specs.Safety.{TrueFinding, LegalEffect}
 use Rattle.runs.specs.Also.{AllBacked}
 use Rattle.runs.proofs.Book.{entered-none, entry-by, book-more, book-enter}
@@ -47,7 +47,7 @@ blank-empty r e ok = by-known (known-by (λ s. []) [] r ok no-forms)
     no-forms : Within (recordForms r) []
     no-forms = rw e (λ s i. i)
 
-    by-known : Known (λ s. []) [] r → r ≡ emptyRecord
+    by-known : RecordKnown (λ s. []) [] r → r ≡ emptyRecord
     by-known (known-empty p) = p
     by-known (known-recorded n m) = absurd (n (eqb-true (r .revision .0) 0 e))
 
@@ -74,7 +74,7 @@ module _ (D : List ℕ → Dig) (D32 : (l : List ℕ) → length (D l) ≡ 32) w
   pub record Core (w : World) : Type 0 where
     pub tree : Tree
     pub root : hashOf D tree ≡ w .registers .root
-    pub stands : StandsFor (digest D) (w .formed) tree (w .items)
+    pub stands : StandsFor (digestOf D) (w .formed) tree (w .items)
     pub book : AllBacked D (w .formed) (w .book)
     pub counter : w .registers .counter .0 ≡ w .changed
 
@@ -91,7 +91,7 @@ module _ (D : List ℕ → Dig) (D32 : (l : List ℕ) → length (D l) ≡ 32) w
       record {
         tree = v .tree;
         root = v .root ∙ sym r;
-        stands = rw e (stands-more (digest D) (more a w) (v .stands));
+        stands = rw e (stands-more (digestOf D) (more a w) (v .stands));
         book = rw (e, entered-none by (w .book)) (book-more D (w .book) (more a w) (v .book));
         counter = rw e (ap (λ (x : _). x .0) c ∙ v .counter);
       }
@@ -120,10 +120,10 @@ module _ (D : List ℕ → Dig) (D32 : (l : List ℕ) → length (D l) ≡ 32) w
     key = s .secret
 
     abbrev dig : Str → Dig
-    dig = digest D
+    dig = digestOf D
 
     abbrev a : Request → Told
-    a q = told D s kind q (passed fs)
+    a q = toldBy D s kind q (allPassed fs)
 
     abbrev G : Request → List Str
     G q = a q .formed ++ w .formed
@@ -147,13 +147,13 @@ module _ (D : List ℕ → Dig) (D32 : (l : List ℕ) → length (D l) ≡ 32) w
 
     -- a memorandum that the check of number n asks to say t, behind other strings or none
     means-after : {q : Request} {l : List Str} {t : Memo} {m : Dig} → Asked D w (G q) q l (t ∷ []) m
-        → Or D w (G q) q (Means dig (G q) t (standsFor m (w .book)))
+        → Or D w (G q) q (Means dig (G q) t (stepsFor m (w .book)))
     means-after {q} {l} {t} {m} a = C.means D w (G q) (backed q) t m a
 
     means : {q : Request} (g : GivenTo q) (n : ℕ) (t : Memo) (m : Dig)
         → those n (needs D s q)
         ≡ record { number = n; fails = noneFits D key (t ∷ []) m; forms = tried D key (t ∷ []) m; compares = m ∷ [] } ∷ []
-        → Or D w (G q) q (Means dig (G q) t (standsFor m (w .book)))
+        → Or D w (G q) q (Means dig (G q) t (stepsFor m (w .book)))
     means {q} g n t m e = means-after (asked-at D w (G q) g n [] (t ∷ []) m e)
 
     -- the strings that an answer forms before its memorandum

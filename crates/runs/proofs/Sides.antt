@@ -11,9 +11,9 @@ use Rattle.paper.specs.declared.Registers.{Registers}
 use Rattle.paper.specs.Strings.{Dig, Str}
 use Rattle.paper.specs.Requests as Q
 use Rattle.paper.specs.Requests.{Request}
-use Rattle.paper.specs.Refusals.{isOpen, belowTop, needs, carried, applies, Verdict, refused, passed, judge}
+use Rattle.paper.specs.Refusals.{isOpen, belowTop, needs, carriedMemoranda, applies, Verdict, refusedBy, allPassed, judge}
 use Rattle.paper.specs.Answers.{rooted, raised, answer}
-use Rattle.paper.specs.Module.{Told, told}
+use Rattle.paper.specs.Module.{Told, toldBy}
 use Rattle.paper.proofs.Early.{late}
 use Rattle.paper.proofs.Verdicts.{opposite-false, the-one}
 use Rattle.runs.specs.Run.{LineTurn, Reading, ofRuns, World, toldAt, landed, next, after}
@@ -62,7 +62,7 @@ module _ (D : List ℕ → Dig) (D32 : (l : List ℕ) → length (D l) ≡ 32) w
         shut = not-shut s o;
       }
 
-  left : (s : Registers) (q : Request) → NoneApplies (needs D s q) → Wide q → Left s (answer D s q .after) (carried D s q)
+  left : (s : Registers) (q : Request) → NoneApplies (needs D s q) → Wide q → Left s (answer D s q .after) (carriedMemoranda D s q)
   left s (Q.path x x′ sides l) h w = stays s (s .root) (h 13)
   left s (Q.witness x y m) h w = stays s (s .root) (h 13)
   left s (Q.join x y x′ y′ m1 z z′ m2) h w = stays s (s .root) (h 13)
@@ -90,7 +90,7 @@ module _ (D : List ℕ → Dig) (D32 : (l : List ℕ) → length (D l) ≡ 32) w
 
   -- a refused line
   refused-side : (by : Reading) (k : Dig) (w : World) (kind : ℕ) (q : Request) (n : ℕ) (fs : List Str) → Well fs
-      → (w .registers .opened ≡ false → fs ≡ []) → Side k w → Side k (landed D by w (told D (w .registers) kind q (refused n fs)))
+      → (w .registers .opened ≡ false → fs ≡ []) → Side k w → Side k (landed D by w (toldBy D (w .registers) kind q (refusedBy n fs)))
   refused-side by k w kind q n fs h none v =
       record {
         small = v .small;
@@ -110,8 +110,8 @@ module _ (D : List ℕ → Dig) (D32 : (l : List ℕ) → length (D l) ≡ 32) w
   -- an accepted line
   accepted-side : (by : Reading) (k : Dig) (w : World) (kind : ℕ) (q : Request) (fs : List Str)
       → NoneApplies (needs D (w .registers) q) → Wide q
-      → Well (told D (w .registers) kind q (passed fs) .formed) → Side k w → Side k
-      (landed D by w (told D (w .registers) kind q (passed fs)))
+      → Well (toldBy D (w .registers) kind q (allPassed fs) .formed) → Side k w → Side k
+      (landed D by w (toldBy D (w .registers) kind q (allPassed fs)))
   accepted-side by k w kind q fs n h f v =
       let s = w .registers in
       let l = left s q n h in
@@ -129,15 +129,15 @@ module _ (D : List ℕ → Dig) (D32 : (l : List ℕ) → length (D l) ≡ 32) w
     abbrev NoneIfShut : Told → Type 0
     NoneIfShut a = s .opened ≡ false → a .formed ≡ []
 
-    read-shut : (u : Verdict) → judge late [] (needs D s q) ≡ u → NoneIfShut (told D s kind q u)
-    read-shut u e = subst (λ (v : Verdict). NoneIfShut (told D s kind q v)) e (closed-forms D D32 s kind q small h)
+    read-shut : (u : Verdict) → judge late [] (needs D s q) ≡ u → NoneIfShut (toldBy D s kind q u)
+    read-shut u e = subst (λ (v : Verdict). NoneIfShut (toldBy D s kind q v)) e (closed-forms D D32 s kind q small h)
 
-    read-well : (u : Verdict) → judge late [] (needs D s q) ≡ u → Well (told D s kind q u .formed)
+    read-well : (u : Verdict) → judge late [] (needs D s q) ≡ u → Well (toldBy D s kind q u .formed)
     read-well u e = by-open (s .opened) refl
       where
-        by-open : (b : Bool) → s .opened ≡ b → Well (told D s kind q u .formed)
+        by-open : (b : Bool) → s .opened ≡ b → Well (toldBy D s kind q u .formed)
         by-open true o =
-            subst (λ (v : Verdict). Well (told D s kind q v .formed)) e (well-formed D D32 s kind q small (keyed o) h)
+            subst (λ (v : Verdict). Well (toldBy D s kind q v .formed)) e (well-formed D D32 s kind q small (keyed o) h)
         by-open false o = subst Well (sym (read-shut u e o)) tt
 
   line-side : (by : Reading) (k : Dig) (w : World) (t : LineTurn) → Side k w → Side k (next D by w t)
@@ -148,19 +148,19 @@ module _ (D : List ℕ → Dig) (D32 : (l : List ℕ) → length (D l) ≡ 32) w
           subst (λ (x : Told). Side k (landed D by w x)) (sym e)
           (refused-side by k w (kindIn t) (asked t) n fs (rw p tt) (λ o. p) v)
       by-sort (refusal n fs z e (inr r)) =
-          let well = read-well (w .registers) (v .small) (v .keyed) (kindIn t) (asked t) (r .0) (refused n fs) (r .1) in
-          let shut = read-shut (w .registers) (v .small) (v .keyed) (kindIn t) (asked t) (r .0) (refused n fs) (r .1) in
+          let well = read-well (w .registers) (v .small) (v .keyed) (kindIn t) (asked t) (r .0) (refusedBy n fs) (r .1) in
+          let shut = read-shut (w .registers) (v .small) (v .keyed) (kindIn t) (asked t) (r .0) (refusedBy n fs) (r .1) in
           subst (λ (x : Told). Side k (landed D by w x)) (sym e)
           (refused-side by k w (kindIn t) (asked t) n fs well shut v)
       by-sort (acceptance fs e h j n i) =
-          let well = read-well (w .registers) (v .small) (v .keyed) (kindIn t) (asked t) h (passed fs) j in
+          let well = read-well (w .registers) (v .small) (v .keyed) (kindIn t) (asked t) h (allPassed fs) j in
           subst (λ (x : Told). Side k (landed D by w x)) (sym e) (accepted-side by k w (kindIn t) (asked t) fs n h well v)
 
   -- ── a line at a module that is not open, and one at an open module ──
 
   pub record AtShut (w : World) (t : LineTurn) : Type 0 where
     pub forms-none : toldAt D w t .formed ≡ []
-    pub carries-none : toldAt D w t .refusal ≡ 0 → carried D (w .registers) (asked t) ≡ []
+    pub carries-none : toldAt D w t .refusal ≡ 0 → carriedMemoranda D (w .registers) (asked t) ≡ []
 
   pub at-shut : (k : Dig) (w : World) (t : LineTurn) → Side k w → w .registers .opened ≡ false → AtShut w t
   at-shut k w t v o = by-sort (sorted D (w .registers) (t .line) (t .space))
@@ -174,13 +174,13 @@ module _ (D : List ℕ → Dig) (D32 : (l : List ℕ) → length (D l) ≡ 32) w
       by-sort (refusal n fs z e (inr r)) =
           record {
             forms-none = ap (λ (a : Told). a .formed) e
-                ∙ read-shut (w .registers) (v .small) (v .keyed) (kindIn t) (asked t) (r .0) (refused n fs) (r .1) o;
+                ∙ read-shut (w .registers) (v .small) (v .keyed) (kindIn t) (asked t) (r .0) (refusedBy n fs) (r .1) o;
             carries-none = λ h. absurd (z (sym (ap (λ (a : Told). a .refusal) e) ∙ h));
           }
       by-sort (acceptance fs e h j n i) =
           record {
             forms-none = ap (λ (a : Told). a .formed) e
-                ∙ read-shut (w .registers) (v .small) (v .keyed) (kindIn t) (asked t) h (passed fs) j o;
+                ∙ read-shut (w .registers) (v .small) (v .keyed) (kindIn t) (asked t) h (allPassed fs) j o;
             carries-none = λ z. left (w .registers) (asked t) n h .shut o;
           }
 

@@ -13,11 +13,11 @@ use Rattle.seqs.specs.Choose.{pick}
 use Rattle.paper.specs.declared.Record.{Record}
 use Rattle.paper.specs.declared.Values.{Values}
 use Rattle.paper.specs.declared.Registers.{Registers}
-use Rattle.paper.specs.Strings.{Dig, Str, leaf, entry, digest, emptyRecord, malformed}
+use Rattle.paper.specs.Strings.{Dig, Str, leaf, entry, digestOf, emptyRecord, malformed}
 use Rattle.paper.specs.Refusals.{top, nextRecord}
 use Rattle.rings.specs.Trees.{points, Tree, empty, tip, branch, leaves, count}
 use Rattle.rings.specs.Lists.{itemWith, Ascending, OnList, insert, remove, putRecord}
-use Rattle.rings.specs.Meanings.{_∈_, TreeIn, hashRecord, Known, known-empty, known-recorded}
+use Rattle.rings.specs.Meanings.{_∈_, TreeIn, hashRecord, RecordKnown, known-empty, known-recorded}
 use Rattle.rings.proofs.Counting.{count-nil, count-append, count-single}
 use Rattle.rings.proofs.Items.{record-at, listed-above}
 use Rattle.rings.proofs.Find.{item-leaf}
@@ -116,16 +116,16 @@ leaf-formed D F (branch l r) a b v i m =
       | no n ↦ leaf-formed D F r a b v (i .1) (omega (arith, count-append (points a b v) (leaves l) (leaves r)))
     ]
 
-known-fits : (D : Str → Dig) (F : List Str) (r : Record) → Well F → Known D F r → RecordFits r
+known-fits : (D : Str → Dig) (F : List Str) (r : Record) → Well F → RecordKnown D F r → RecordFits r
 known-fits D F r w (known-empty e) = rw e none-fits
 known-fits D F r w (known-recorded n m) = let s = well-at F (entry r) w m in (s .0, s .1 .0, s .1 .1 .0, s .1 .1 .1 .0)
 
 pub listed-fits : (D : List ℕ → Dig) (D32 : (l : List ℕ) → length (D l) ≡ 32) (w : World) → Core D D32 w → Well (w .formed)
     → ItemsFit (w .items)
 listed-fits D D32 w c h A r m =
-    let dig = digest D in
+    let dig = digestOf D in
     let g = c .stands in
-    let k = record-at (Known dig (w .formed)) (w .items) A r (g .known) m in
+    let k = record-at (RecordKnown dig (w .formed)) (w .items) A r (g .known) m in
     let i = item-leaf (hashRecord dig) A r (w .items) m in
     let x = points A (i .0) (hashRecord dig r) in
     let f = leaf-formed dig (w .formed) (c .tree) A (i .0) (hashRecord dig r) (g .tree-in) (omega (arith, g .permuted x, i .1)) in

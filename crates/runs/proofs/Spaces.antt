@@ -9,8 +9,8 @@ use Rattle.hex.specs.Hex.{bytesOf}
 use Rattle.paper.specs.declared.Registers.{Registers}
 use Rattle.paper.specs.Strings.{Dig}
 use Rattle.paper.specs.Requests.{Request, kindOf, requestOf}
-use Rattle.paper.specs.Refusals.{plain, order, replyRoom, isHex, needs, judge, carried}
-use Rattle.paper.specs.Module.{Told, frameChecks, told, answerTo}
+use Rattle.paper.specs.Refusals.{plain, order, replyRoom, isHex, needs, judge, carriedMemoranda}
+use Rattle.paper.specs.Module.{Told, frameChecks, toldBy, answerTo}
 use Rattle.runs.specs.Run.{LineTurn, last, World, toldAt, landed, next}
 use Rattle.runs.specs.Frames.{linesOf, turnOf, turnsOf}
 use Rattle.runs.specs.Liveness.{AllIssued, Spaced, fed, Honest, lastReply}
@@ -30,7 +30,7 @@ module _ (D : List ℕ → Dig) where
   unfolding answerTo
   room-enough s line space h =
       let f = bytesOf line in
-      ap (λ (b : Bool). told D s (kindOf f) (requestOf f)
+      ap (λ (b : Bool). toldBy D s (kindOf f) (requestOf f)
       (judge order [] (plain 15 b ∷ isHex line ∷ (frameChecks f ++ needs D s (requestOf f))))) (le-ltb space replyRoom h)
 
   told-same : (w : World) (q : Request) (t : LineTurn) → t .line ≡ turnOf q .line → replyRoom ≤ t .space
@@ -58,7 +58,7 @@ module _ (D : List ℕ → Dig) where
   honest-same w (q ∷ qs) [] h k = absurd h
   honest-same w (q ∷ qs) (t ∷ us) h k = (
     ap (λ (a : Told). a .refusal) (told-same w q t (h .0) (h .1)) ∙ k .0,
-    subst (λ (l : List ℕ). AllIssued (carried D (w .registers) (requestOf (bytesOf l))) (w .book)) (sym (h .0)) (k .1),
+    subst (λ (l : List ℕ). AllIssued (carriedMemoranda D (w .registers) (requestOf (bytesOf l))) (w .book)) (sym (h .0)) (k .1),
     subst (λ (v : World). Honest D v us) (sym (next-same w q t (h .0) (h .1)))
         (honest-same (next D last w (turnOf q)) qs us (h .2) (k .2)),
   )

@@ -7,9 +7,9 @@ use native.Mathlib.Omega.{arith}
 use borrow.Author.Tests.{eq-eqb}
 use Rattle.paper.specs.declared.Record.{Record}
 use Rattle.paper.specs.declared.Registers.{Registers}
-use Rattle.paper.specs.Strings.{Dig, leaf, digest, recordHash}
+use Rattle.paper.specs.Strings.{Dig, leaf, digestOf, recordHash}
 use Rattle.paper.specs.Refusals.{leafOf}
-use Rattle.rings.specs.Trees.{Leaf, points, Tree, tip, leaves, hashOf, count, Permuted}
+use Rattle.rings.specs.Trees.{TreeLeaf, points, Tree, tip, leaves, hashOf, count, Permuted}
 use Rattle.rings.specs.Lists.{Ascending, OnList, ring}
 use Rattle.rings.proofs.Items.{listed-above}
 use Rattle.rings.proofs.Find.{item-leaf}
@@ -24,7 +24,7 @@ use Rattle.runs.proofs.Sizes.{record-is}
 
 module _ (D : List ℕ → Dig) where
   -- a leaf of the ring of a world's list
-  abbrev pub InRing : World → Leaf → Type 0
+  abbrev pub InRing : World → TreeLeaf → Type 0
   InRing w x = 0 < count x (ring (recordHash D) (w .items))
 
   -- the module is open, the tree stands for the list, and what is listed fits lines
@@ -36,7 +36,7 @@ module _ (D : List ℕ → Dig) where
     pub counter : w .registers .counter .0 ≡ w .changed
     pub fits : ItemsFit (w .items)
 
-  pub leaf-digest : (x : Leaf) → digest D (leaf (itemOf x) (nextOf x) (hashIn x)) ≡ hashOf D (tip x)
+  pub leaf-digest : (x : TreeLeaf) → digestOf D (leaf (itemOf x) (nextOf x) (hashIn x)) ≡ hashOf D (tip x)
   leaf-digest (points A B v) = refl
 
 module _ {D : List ℕ → Dig} {w : World} {T : Tree} (g : Ground D w T) where
@@ -45,7 +45,7 @@ module _ {D : List ℕ → Dig} {w : World} {T : Tree} (g : Ground D w T) where
 
   -- ── the leaf that a test finds ──
 
-  pub record Spotted (p : Leaf → Bool) : Type 0 where
+  pub record Spotted (p : TreeLeaf → Bool) : Type 0 where
     pub passes : p (found p T) ≡ true
     pub in-ring : InRing D w (found p T)
     pub held : Record
@@ -60,14 +60,14 @@ module _ {D : List ℕ → Dig} {w : World} {T : Tree} (g : Ground D w T) where
   above-zero A r m = listed-above 0 A r (w .items) (g .ascending) m
 
   -- every leaf of the tree occurs once
-  pub once : (v : Leaf) → count v (leaves T) ≤ 1
+  pub once : (v : TreeLeaf) → count v (leaves T) ≤ 1
   once v = omega (arith, g .holds v, ring-once (recordHash D) v (w .items) (g .ascending))
 
   -- where some leaf of the ring passes
-  pub spot-by : (p : Leaf → Bool) (x : Leaf) → p x ≡ true → InRing D w x → has p T ≡ true
+  pub spot-by : (p : TreeLeaf → Bool) (x : TreeLeaf) → p x ≡ true → InRing D w x → has p T ≡ true
   spot-by p x e m = has-it p x T e (omega (arith, g .holds x))
 
-  pub spotted : (p : Leaf → Bool) → has p T ≡ true → Spotted p
+  pub spotted : (p : TreeLeaf → Bool) → has p T ≡ true → Spotted p
   spotted p h =
       let x = found p T in
       let at = located p T h in
@@ -92,11 +92,11 @@ module _ {D : List ℕ → Dig} {w : World} {T : Tree} (g : Ground D w T) where
       spot-by (isOf A) (points A (i .0) (recordHash D r)) (eq-eqb A A refl) (i .1)
 
   -- it holds the item's record
-  pub item-digest : (A : ℕ) (r : Record) → OnList A r (w .items) → (p : Leaf → Bool) (t : Spotted p) → A ≡ itemOf (found p T)
-      → digest D (leafOf D A (nextOf (found p T)) (recordOf A (w .items))) ≡ hashOf D (tip (found p T))
+  pub item-digest : (A : ℕ) (r : Record) → OnList A r (w .items) → (p : TreeLeaf → Bool) (t : Spotted p) → A ≡ itemOf (found p T)
+      → digestOf D (leafOf D A (nextOf (found p T)) (recordOf A (w .items))) ≡ hashOf D (tip (found p T))
   item-digest A r m p t e =
       let x = found p T in
       let k : recordOf A (w .items) ≡ t .held =
       record-is 0 A (t .held) (w .items) (g .ascending) (subst (λ (a : ℕ). OnList a (t .held) (w .items)) (sym e) (t .listed)) in
       let h : recordHash D (recordOf A (w .items)) ≡ hashIn x = ap (recordHash D) k ∙ t .hash-is in
-      (λ i. digest D (leaf (e i) (nextOf x) (h i))) ∙ leaf-digest D x
+      (λ i. digestOf D (leaf (e i) (nextOf x) (h i))) ∙ leaf-digest D x

@@ -10,13 +10,13 @@ use Prim.Native.Nat.{ℕ, _-_, _≤_, _<_}
 use lib.ListN.{length, drop}
 use Rattle.sha256.specs.Hash.{sha256}
 use Rattle.hex.specs.Hex.{bytesOf}
-use Rattle.paper.specs.Strings.{Dig, nought, Memo, Str, digest, memorandum, memorandumForms}
+use Rattle.paper.specs.Strings.{Dig, nought, Memo, Str, digestOf, memorandum, memorandumForms}
 use Rattle.paper.specs.Requests.{kindOf}
 use Rattle.paper.specs.Collisions.{Collision}
 use Rattle.rings.specs.Trees.{Tree}
 use Rattle.rings.specs.Endings.{ZeroDigest}
 use Rattle.rings.specs.Meanings.{Within, Means}
-use Rattle.runs.specs.Run.{LineTurn, Items, Issue, standsFor, isIssued, World, toldAt, after}
+use Rattle.runs.specs.Run.{LineTurn, Items, Issue, stepsFor, isIssued, World, toldAt, after}
 use Rattle.runs.specs.Endings.{Forged, Ending}
 use Rattle.runs.specs.Safety.{Stands, Safe}
 use Rattle.runs.specs.Wishes.{Wish}
@@ -92,7 +92,7 @@ module _ (D : List ℕ → Dig) where
 
   -- Granted wishes seen by the replay of runs, whichever lines grant them: the run had ended before those lines, or among the
   -- strings something can be shown, or behind them the run's own list is the one wanted and a tree stands for it.
-  pub record Replayed (k : Dig) (ts us : List LineTurn) (l : Items) : Type 0 where
+  pub record ReplayComesTo (k : Dig) (ts us : List LineTurn) (l : Items) : Type 0 where
     pub items : after D k (onwards us ts) .items ≡ l
     pub stands : Stands D (after D k (onwards us ts))
 
@@ -101,24 +101,24 @@ module _ (D : List ℕ → Dig) where
       (k : Dig) (ts us : List LineTurn) (T : Tree) (x : Wish) → Grants D (latestFirst (after D k ts)) T x us
       → Ending D k ts
       ⊎ (Shown (after D k (onwards us ts) .formed)
-      ⊎ Replayed k ts us (itemsAfter (after D k ts .registers) (after D k ts .items) x))
+      ⊎ ReplayComesTo k ts us (itemsAfter (after D k ts .registers) (after D k ts .items) x))
 
   -- "A memorandum stands for what the earliest line that issued it does": whatever lines follow
   abbrev pub EarliestStays : Type 0
   EarliestStays =
       (k : Dig) (ts : List LineTurn) (t : LineTurn) (m : Dig) → isIssued m (after D k ts .book) ≡ true
-      → standsFor m (after D k (t ∷ ts) .book) ≡ standsFor m (after D k ts .book)
+      → stepsFor m (after D k (t ∷ ts) .book) ≡ stepsFor m (after D k ts .book)
 
   -- "A line issues the memorandum its reply lists": an accepted line of kinds 01 to 0a enters one memorandum behind those issued
   -- before, the last 32 bytes of its reply; no other line enters any.
-  pub record Entered (w : World) (t : LineTurn) (book : List Issue) : Type 0 where
+  pub record LineEnters (w : World) (t : LineTurn) (book : List Issue) : Type 0 where
     pub issuing : toldAt D w t .refusal ≡ 0 → kindOf (bytesOf (t .line)) ≤ 0x0a
         → (i : Issue) × (i .memorandum ≡ lastOf 32 (toldAt D w t .says)) × (book ≡ w .book ++ (i ∷ []))
     pub other : 0x0a < kindOf (bytesOf (t .line)) → book ≡ w .book
     pub refused : (toldAt D w t .refusal ≡ 0 → ⊥) → book ≡ w .book
 
   abbrev pub BookGrows : Type 0
-  BookGrows = (k : Dig) (ts : List LineTurn) (t : LineTurn) → Entered (after D k ts) t (after D k (t ∷ ts) .book)
+  BookGrows = (k : Dig) (ts : List LineTurn) (t : LineTurn) → LineEnters (after D k ts) t (after D k (t ∷ ts) .book)
 
   -- Every memorandum issued so far means what it says: it was made of what it says and a secret, its strings were formed, and what
   -- it says is so by the strings formed, an EI standing for what the line that issued it does; or the run has ended.
@@ -127,7 +127,7 @@ module _ (D : List ℕ → Dig) where
     pub key : Dig
     pub formed : Within (memorandumForms D says key) F
     pub memorandum-is : memorandum D says key ≡ i .memorandum
-    pub means : Means (digest D) F says (i .does)
+    pub means : Means (digestOf D) F says (i .does)
 
   abbrev pub AllBacked : List Str → List Issue → Type 0
   AllBacked F [] = Unit {0}

@@ -13,7 +13,7 @@ use Rattle.paper.specs.declared.Registers.{Registers}
 use Rattle.paper.specs.declared.Values.{Values}
 use Rattle.paper.specs.declared.Finding.{Finding}
 use Rattle.paper.specs.declared.Finding.the-variants.{Recorded, Listed as Empty, Gap}
-use Rattle.paper.specs.Strings.{Dig, v1, emptyRecord, digest, memorandum}
+use Rattle.paper.specs.Strings.{Dig, v1, emptyRecord, digestOf, memorandum}
 use Rattle.paper.specs.Refusals.{replyRoom, leafOf}
 use Rattle.paper.specs.Module.{answerTo}
 use Rattle.rings.specs.Lists.{itemWith}
@@ -186,7 +186,7 @@ questions =
 
 abbrev pub RepliedSo : (D : List ℕ → Dig) → Question → Type 0
 RepliedSo D x = (s : Registers) → s .opened ≡ true → length (s .root) ≡ 32 → Bytes (s .root)
-    → (let m = memorandum D (v1 (digest D (leafOf D (x .A) (x .A′) (x .r))) (s .root)) (s .secret) in
+    → (let m = memorandum D (v1 (digestOf D (leafOf D (x .A) (x .A′) (x .r))) (s .root)) (s .secret) in
     answerTo D s (digitsOf (x .frame ++ (s .root ++ m))) replyRoom .says ≡ x .says)
 
 abbrev pub EveryReply : (D : List ℕ → Dig) → List Question → Type 0

@@ -7,7 +7,7 @@ use Prim.Native.Nat.{ℕ}
 use Rattle.hex.specs.Hex.{bytesOf}
 use Rattle.paper.specs.Strings.{Dig}
 use Rattle.paper.specs.Requests.{requestOf}
-use Rattle.paper.specs.Refusals.{carried}
+use Rattle.paper.specs.Refusals.{carriedMemoranda}
 use Rattle.paper.specs.Collisions.{Collision}
 use Rattle.rings.specs.Endings.{ZeroDigest}
 use Rattle.runs.specs.Run.{LineTurn, World, isIssued, toldAt, after}
@@ -17,7 +17,7 @@ module _ (D : List ℕ → Dig) where
   pub record Forged (w : World) (t : LineTurn) : Type 0 where
     pub accepted : toldAt D w t .refusal ≡ 0
     pub memorandum : Dig
-    pub carries : List·Memᴰ memorandum (carried D (w .registers) (requestOf (bytesOf (t .line))))
+    pub carries : List·Memᴰ memorandum (carriedMemoranda D (w .registers) (requestOf (bytesOf (t .line))))
     pub unissued : isIssued memorandum (w .book) ≡ false
 
   -- how a run may end; its turns are given the latest first

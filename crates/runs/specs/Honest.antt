@@ -7,7 +7,7 @@ use Rattle.seqs.specs.Choose.{pick}
 use Rattle.paper.specs.declared.Record.{Record}
 use Rattle.paper.specs.declared.Registers.{Registers}
 use Rattle.paper.specs.declared.Values.{Values}
-use Rattle.paper.specs.Strings.{Dig, nought, Memo, u1, v1, u2, ei, leaf, emptyRecord, digest, memorandum}
+use Rattle.paper.specs.Strings.{Dig, nought, Memo, u1, v1, u2, ei, leaf, emptyRecord, digestOf, memorandum}
 use Rattle.paper.specs.Requests.{Request, path, witness, join, pair, raise, swap, first, place, turn, adopt, setTo, clear, ask, askNone, mostSiblings}
 use Rattle.paper.specs.Refusals.{nextRecord, clearedRecord, leafOf}
 use Rattle.rings.specs.Trees.{Tree, tip, hashOf}
@@ -101,10 +101,10 @@ module _ (D : List ℕ → Dig) (s : Registers) where
   -- Place: "x1 is leaf(A,A',ω), x1' is leaf(A,B',ω), x2 is leaf(A',B',0), x2' is 0". Here item A stands between B and B′: the
   -- leaf of B leads past it, and its own leaf goes
   abbrev pub relinked : (B A B′ : ℕ) (ω : Dig) → Edit
-  relinked B A B′ ω = record { was = digest D (leaf B A ω); becomes = digest D (leaf B B′ ω) }
+  relinked B A B′ ω = record { was = digestOf D (leaf B A ω); becomes = digestOf D (leaf B B′ ω) }
 
   abbrev pub gone : (A B′ : ℕ) → Edit
-  gone A B′ = record { was = digest D (leaf A B′ nought); becomes = nought }
+  gone A B′ = record { was = digestOf D (leaf A B′ nought); becomes = nought }
 
   abbrev pub onLeftFoot : Fork → (B A B′ : ℕ) (ω : Dig) → Edit
   onLeftFoot f B A B′ ω = leftOne f (relinked B A B′ ω) (gone A B′)
@@ -126,7 +126,7 @@ module _ (D : List ℕ → Dig) (s : Registers) where
 
   -- from the root of the empty list to that of item A alone
   abbrev pub alone : (A : ℕ) → Edit
-  alone A = record { was = nought; becomes = digest D (leaf A A nought) }
+  alone A = record { was = nought; becomes = digestOf D (leaf A A nought) }
 
   -- into the empty list by first; else the leaf whose gap holds A becomes two leaves under one node, and place is turned
   -- round: "turned round, the EI inserts"
@@ -165,7 +165,7 @@ module _ (D : List ℕ → Dig) (s : Registers) where
   abbrev pub rewritten : (A : ℕ) (new : Record) → Tree → Items → Edit
   rewritten A new T l =
       let A′ = nextOf (found (isOf A) T) in
-      record { was = digest D (leafOf D A A′ (recordOf A l)); becomes = digest D (leafOf D A A′ new) }
+      record { was = digestOf D (leafOf D A A′ (recordOf A l)); becomes = digestOf D (leafOf D A A′ new) }
 
   abbrev pub setLines : (A : ℕ) (v : Values) → Tree → Items → List Request
   setLines A v T l =
@@ -188,7 +188,7 @@ module _ (D : List ℕ → Dig) (s : Registers) where
   leafLines q T l =
       let z = found (tellsOf q) T in
       let r = recordOf (itemOf z) l in
-      let d = digest D (leafOf D (itemOf z) (nextOf z) r) in
+      let d = digestOf D (leafOf D (itemOf z) (nextOf z) r) in
       let x : Edit = record { was = d; becomes = d } in
       let y = risen D (wayTo (tellsOf q) T) x in
       onePlace (wayTo (tellsOf q) T) x

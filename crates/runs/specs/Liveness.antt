@@ -16,7 +16,7 @@ use Rattle.hex.specs.Hex.{bytesOf}
 use Rattle.paper.specs.declared.Finding.{Finding}
 use Rattle.paper.specs.Strings.{Dig}
 use Rattle.paper.specs.Requests.{requestOf}
-use Rattle.paper.specs.Refusals.{replyRoom, top, carried}
+use Rattle.paper.specs.Refusals.{replyRoom, top, carriedMemoranda}
 use Rattle.paper.specs.Answers.{findingBytes}
 use Rattle.rings.specs.Trees.{Tree, hashOf}
 use Rattle.runs.specs.Run.{LineTurn, Items, last, Issue, isIssued, World, toldAt, next, after}
@@ -62,7 +62,7 @@ module _ (D : List ℕ → Dig) where
   abbrev pub Honest : World → List LineTurn → Type 0
   Honest w [] = Unit {0}
   Honest w (t ∷ ts) =
-      (toldAt D w t .refusal ≡ 0) × AllIssued (carried D (w .registers) (requestOf (bytesOf (t .line)))) (w .book)
+      (toldAt D w t .refusal ≡ 0) × AllIssued (carriedMemoranda D (w .registers) (requestOf (bytesOf (t .line)))) (w .book)
       × Honest (next D last w t) ts
 
   -- the reply to the last of them, as bytes
@@ -75,7 +75,7 @@ module _ (D : List ℕ → Dig) where
 
   -- a reply to a question on q that is true of the list
   pub data TrueReply (q : ℕ) (l : Items) (says : List ℕ) : Type 0 where
-    finding : (f : Finding) → TrueFinding D q f l → says ≡ 0x8e ∷ findingBytes f → TrueReply q l says
+    findingGiven : (f : Finding) → TrueFinding D q f l → says ≡ 0x8e ∷ findingBytes f → TrueReply q l says
     nothing-listed : l ≡ [] → says ≡ 0x8f ∷ be64 q → TrueReply q l says
 
   -- changes only have to be done

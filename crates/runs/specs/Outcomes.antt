@@ -7,7 +7,7 @@ use Rattle.paper.specs.declared.Registers.{Registers}
 use Rattle.paper.specs.Strings.{Dig, emptyRecord}
 use Rattle.paper.specs.Refusals.{nextRecord, clearedRecord}
 use Rattle.paper.specs.Answers.{rooted, raised}
-use Rattle.rings.specs.Trees.{Leaf, points, Tree, empty, tip, branch, leaves}
+use Rattle.rings.specs.Trees.{TreeLeaf, points, Tree, empty, tip, branch, leaves}
 use Rattle.rings.specs.Lists.{insert, remove, putRecord}
 use Rattle.runs.specs.Run.{Items}
 use Rattle.runs.specs.Wishes.{Wish, insertItem, removeItem, swapPlaces, setRecord, clearRecord, askAbout}
@@ -35,21 +35,21 @@ registersAfter s y (askAbout q) = s
 -- trees that differ in their leaves alone
 pub data SameShape : Tree → Tree → Type 0 where
   nothings : SameShape empty empty
-  tips : (x y : Leaf) → SameShape (tip x) (tip y)
+  tips : (x y : TreeLeaf) → SameShape (tip x) (tip y)
   branches : {l r l′ r′ : Tree} → SameShape l l′ → SameShape r r′ → SameShape (branch l r) (branch l′ r′)
 
-abbrev pub IsLeafOf : (A : ℕ) → Leaf → Type 0
+abbrev pub IsLeafOf : (A : ℕ) → TreeLeaf → Type 0
 IsLeafOf A x = (A′ : ℕ) × (ω : Dig) × (x ≡ points A A′ ω)
 
 -- among the leaves of a tree, from left to right, those of A and B have changed places, whichever stood on the left, and no other
 -- leaf has moved
-pub record Exchanged (A B : ℕ) (before after : List Leaf) : Type 0 where
-  pub left : Leaf
-  pub right : Leaf
+pub record Exchanged (A B : ℕ) (before after : List TreeLeaf) : Type 0 where
+  pub left : TreeLeaf
+  pub right : TreeLeaf
   pub theirs : (IsLeafOf A left × IsLeafOf B right) ⊎ (IsLeafOf B left × IsLeafOf A right)
-  pub front : List Leaf
-  pub between : List Leaf
-  pub back : List Leaf
+  pub front : List TreeLeaf
+  pub between : List TreeLeaf
+  pub back : List TreeLeaf
   pub was : before ≡ front ++ (left ∷ (between ++ (right ∷ back)))
   pub becomes : after ≡ front ++ (right ∷ (between ++ (left ∷ back)))
 

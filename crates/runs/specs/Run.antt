@@ -44,9 +44,9 @@ entered earliest b i = b ++ i
 entered last b i = i ++ b
 
 -- what the first entry of a book for a memorandum does; nothing where there is none
-abbrev pub standsFor : (m : Dig) → List Issue → List Step
-standsFor m [] = []
-standsFor m (i ∷ b) = pick (same (i .memorandum) m) (i .does) (standsFor m b)
+abbrev pub stepsFor : (m : Dig) → List Issue → List Step
+stepsFor m [] = []
+stepsFor m (i ∷ b) = pick (same (i .memorandum) m) (i .does) (stepsFor m b)
 
 abbrev pub isIssued : (m : Dig) → List Issue → Bool
 isIssued m [] = false
@@ -57,8 +57,8 @@ abbrev pub meaning : List Issue → ListChange → List Step
 meaning b Does.nothing = []
 meaning b (Does.adds A) = insertion A ∷ []
 meaning b (Does.removes A) = removal A ∷ []
-meaning b (Does.reverses m) = reversed (standsFor m b)
-meaning b (Does.bothInOrder m1 m2) = standsFor m1 b ++ standsFor m2 b
+meaning b (Does.reverses m) = reversed (stepsFor m b)
+meaning b (Does.bothInOrder m1 m2) = stepsFor m1 b ++ stepsFor m2 b
 
 -- ── what a run comes to ──
 
@@ -85,7 +85,7 @@ module _ (D : List ℕ → Dig) where
   abbrev pub replayed : World → Effect → Items
   replayed w none′ = w .items
   replayed w (issues t c) = w .items
-  replayed w (adopts m) = doSteps (standsFor m (w .book)) (w .items)
+  replayed w (adopts m) = doSteps (stepsFor m (w .book)) (w .items)
   replayed w (changes A r) = putRecord A r (w .items)
 
   abbrev pub counted : World → Effect → ℕ

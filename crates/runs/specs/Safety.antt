@@ -19,7 +19,7 @@ use Rattle.paper.specs.Module.{unopened}
 use Rattle.rings.specs.Trees.{Tree, points, leaves, hashOf, Permuted}
 use Rattle.rings.specs.Lists.{Ascending, OnList, Unlisted, ring}
 use Rattle.rings.specs.Changes.{LegalSteps}
-use Rattle.runs.specs.Run.{LineTurn, Items, standsFor, World, toldAt, after}
+use Rattle.runs.specs.Run.{LineTurn, Items, stepsFor, World, toldAt, after}
 use Rattle.runs.specs.Sizes.{ItemsFit}
 use Rattle.runs.specs.Endings.{Ending}
 
@@ -60,7 +60,7 @@ module _ (D : List ℕ → Dig) where
   abbrev pub LegalEffect : World → Effect → Type 0
   LegalEffect w none′ = Unit {0}
   LegalEffect w (issues t c) = Unit {0}
-  LegalEffect w (adopts m) = LegalSteps (standsFor m (w .book)) (w .items)
+  LegalEffect w (adopts m) = LegalSteps (stepsFor m (w .book)) (w .items)
   LegalEffect w (changes A r) =
       (s : Record) × OnList A s (w .items) × (blank r ≡ true → blank s ≡ false)
       × ((r .revision .0 ≡ w .registers .counter .0 + 1) ⊎ (r ≡ clearedRecord))

@@ -7,30 +7,30 @@ use lib.Dec.{eqb}
 use Rattle.seqs.specs.Choose.{pick, either}
 use Rattle.paper.specs.Strings.{Dig, inGap, H}
 use Rattle.paper.specs.Requests.{mostSiblings}
-use Rattle.rings.specs.Trees.{Leaf, points, Leaf-discrete, Tree, empty, tip, branch, hashOf}
+use Rattle.rings.specs.Trees.{TreeLeaf, points, TreeLeaf-discrete, Tree, empty, tip, branch, hashOf}
 
 -- ── leaves ──
 
-abbrev pub itemOf : Leaf → ℕ
+abbrev pub itemOf : TreeLeaf → ℕ
 itemOf (points A A′ ω) = A
 
-abbrev pub nextOf : Leaf → ℕ
+abbrev pub nextOf : TreeLeaf → ℕ
 nextOf (points A A′ ω) = A′
 
-abbrev pub hashIn : Leaf → Dig
+abbrev pub hashIn : TreeLeaf → Dig
 hashIn (points A A′ ω) = ω
 
 -- the leaf of item A; the leaf that leads to A; the leaf whose gap holds q; the leaf that answers a question on q
-abbrev pub isOf : (A : ℕ) → Leaf → Bool
+abbrev pub isOf : (A : ℕ) → TreeLeaf → Bool
 isOf A x = eqb A (itemOf x)
 
-abbrev pub leadsTo : (A : ℕ) → Leaf → Bool
+abbrev pub leadsTo : (A : ℕ) → TreeLeaf → Bool
 leadsTo A x = eqb A (nextOf x)
 
-abbrev pub gapHolds : (q : ℕ) → Leaf → Bool
+abbrev pub gapHolds : (q : ℕ) → TreeLeaf → Bool
 gapHolds q x = inGap q (itemOf x) (nextOf x)
 
-abbrev pub tellsOf : (q : ℕ) → Leaf → Bool
+abbrev pub tellsOf : (q : ℕ) → TreeLeaf → Bool
 tellsOf q x = either (isOf q x) (gapHolds q x)
 
 -- ── the way from a leaf up to the root ──
@@ -45,19 +45,19 @@ abbrev pub Way : Type 0
 Way = List Level
 
 -- a leaf of the tree passes the test
-abbrev pub has : (Leaf → Bool) → Tree → Bool
+abbrev pub has : (TreeLeaf → Bool) → Tree → Bool
 has p empty = false
 has p (tip x) = p x
 has p (branch l r) = either (has p l) (has p r)
 
 -- the first one from the left that does (of a tree without leaves, any)
-abbrev pub found : (Leaf → Bool) → Tree → Leaf
+abbrev pub found : (TreeLeaf → Bool) → Tree → TreeLeaf
 found p empty = points 0 0 []
 found p (tip x) = x
 found p (branch l r) = pick (has p l) (found p l) (found p r)
 
 -- the way from it up to the root
-abbrev pub wayTo : (Leaf → Bool) → Tree → Way
+abbrev pub wayTo : (TreeLeaf → Bool) → Tree → Way
 wayTo p empty = []
 wayTo p (tip x) = []
 wayTo p (branch l r) = pick (has p l) (wayTo p l ++ (onRight r ∷ [])) (wayTo p r ++ (onLeft l ∷ []))
@@ -109,7 +109,7 @@ abbrev pub under : Level → Fork → Fork
 under v f = record { left = f .left; right = f .right; above = f .above ++ (v ∷ []); crossed = f .crossed }
 
 -- of the leaf that p finds and the leaf that q finds (of a tree with no two leaves, any)
-abbrev pub forkOf : (p q : Leaf → Bool) → Tree → Fork
+abbrev pub forkOf : (p q : TreeLeaf → Bool) → Tree → Fork
 forkOf p q empty = record { left = []; right = []; above = []; crossed = false }
 forkOf p q (tip x) = record { left = []; right = []; above = []; crossed = false }
 forkOf p q (branch l r) =
@@ -155,7 +155,7 @@ module _ (D : List ℕ → Dig) where
 -- ── leaves replaced ──
 
 -- a tree in the place of each leaf
-abbrev pub regrown : (Leaf → Tree) → Tree → Tree
+abbrev pub regrown : (TreeLeaf → Tree) → Tree → Tree
 regrown g empty = empty
 regrown g (tip x) = g x
 regrown g (branch l r) = branch (regrown g l) (regrown g r)
@@ -165,9 +165,9 @@ ifYes (yes e) a b = a
 ifYes (no n) a b = b
 
 -- X in the place of the leaf x, and every other leaf as it was
-abbrev pub replacing : (x : Leaf) (X : Tree) → Leaf → Tree
-replacing x X z = ifYes (Leaf-discrete z x) X (tip z)
+abbrev pub replacing : (x : TreeLeaf) (X : Tree) → TreeLeaf → Tree
+replacing x X z = ifYes (TreeLeaf-discrete z x) X (tip z)
 
 -- X in the place of x and Y in the place of y, and every other leaf as it was
-abbrev pub replacingTwo : (x : Leaf) (X : Tree) (y : Leaf) (Y : Tree) → Leaf → Tree
-replacingTwo x X y Y z = ifYes (Leaf-discrete z x) X (ifYes (Leaf-discrete z y) Y (tip z))
+abbrev pub replacingTwo : (x : TreeLeaf) (X : Tree) (y : TreeLeaf) (Y : Tree) → TreeLeaf → Tree
+replacingTwo x X y Y z = ifYes (TreeLeaf-discrete z x) X (ifYes (TreeLeaf-discrete z y) Y (tip z))

@@ -23,7 +23,7 @@ ghost use lib.ListN.{take};
 ghost use Rattle.paper.specs.Strings as S;
 ghost use Rattle.paper.specs.Requests as Q;
 ghost use Rattle.digests.specs.Worked.{worked};
-ghost use Rattle.replies.specs.Outcomes.{outcome};
+ghost use Rattle.replies.specs.Outcomes.{outcomeFor};
 ghost use Rattle.checks.specs.Steps.{Finished};
 ghost use Rattle.places.specs.Places.{requestAt};
 ghost use Rattle.tree_kinds.specs.Pairs.{pairSays};
@@ -83,7 +83,7 @@ fn path_of(
     siblings: [[u8; 32]; MOST_SIBLINGS],
 ) -> Outcome
     requires { ⌜ n ≤ 64 ⌝ }
-    ensures { λ o. ⌜ o ≡ outcome r 1 (Q.path x xn sides (take n siblings)) ⌝ }
+    ensures { λ o. ⌜ o ≡ outcomeFor r 1 (Q.path x xn sides (take n siblings)) ⌝ }
 {
     let j = begin_open(r);
     if j.stopped {
@@ -111,7 +111,7 @@ pub fn path(
     sides: u64,
     siblings: [[u8; 32]; MOST_SIBLINGS],
 ) -> Outcome
-    ensures { λ o. ⌜ o ≡ outcome r 1 (Q.path x xn sides (take n siblings)) ⌝ }
+    ensures { λ o. ⌜ o ≡ outcomeFor r 1 (Q.path x xn sides (take n siblings)) ⌝ }
 {
     if 64 < n {
         return path_of(r, x, xn, 64, sides, siblings);
@@ -121,7 +121,7 @@ pub fn path(
 
 // 02: x, y, m; m is U1(x,y,x,y); answers V1(x,y).
 pub fn witness(r: Registers, f: &[u8]) -> Outcome
-    ensures { λ o. ⌜ o ≡ outcome r 2 (requestAt 2 (now (f .entry))) ⌝ }
+    ensures { λ o. ⌜ o ≡ outcomeFor r 2 (requestAt 2 (now (f .entry))) ⌝ }
 {
     let x = digest(f, FIELDS, 0);
     let y = digest(f, FIELDS, 1);
@@ -136,7 +136,7 @@ pub fn witness(r: Registers, f: &[u8]) -> Outcome
 // 03: x, y, x', y', m1, z, z', m2; m1 is U1(x,y,x',y') and m2 is U1(y,z,y',z'), so that both halves meet; answers
 // U1(x,z,x',z').
 pub fn join(r: Registers, f: &[u8]) -> Outcome
-    ensures { λ o. ⌜ o ≡ outcome r 3 (requestAt 3 (now (f .entry))) ⌝ }
+    ensures { λ o. ⌜ o ≡ outcomeFor r 3 (requestAt 3 (now (f .entry))) ⌝ }
 {
     let x = digest(f, FIELDS, 0);
     let y = digest(f, FIELDS, 1);
@@ -183,7 +183,7 @@ fn pair_answer(
 // 04: x1, y, x1', y', m1, x2, z, x2', z', m2; m1 is U1(x1,y,x1',y') and m2 is U1(x2,z,x2',z'); answers U2 of x1 and x2
 // under one node.
 pub fn pair(r: Registers, f: &[u8]) -> Outcome
-    ensures { λ o. ⌜ o ≡ outcome r 4 (requestAt 4 (now (f .entry))) ⌝ }
+    ensures { λ o. ⌜ o ≡ outcomeFor r 4 (requestAt 4 (now (f .entry))) ⌝ }
 {
     let x1 = digest(f, FIELDS, 0);
     let y = digest(f, FIELDS, 1);
@@ -204,7 +204,7 @@ pub fn pair(r: Registers, f: &[u8]) -> Outcome
 // 05: x1, x2, y, x1', x2', y', m1, z, z', m2; m1 is U2(x1,x2,y,x1',x2',y') and m2 is U1(y,z,y',z'); answers
 // U2(x1,x2,z,x1',x2',z').
 pub fn raise(r: Registers, f: &[u8]) -> Outcome
-    ensures { λ o. ⌜ o ≡ outcome r 5 (requestAt 5 (now (f .entry))) ⌝ }
+    ensures { λ o. ⌜ o ≡ outcomeFor r 5 (requestAt 5 (now (f .entry))) ⌝ }
 {
     let x1 = digest(f, FIELDS, 0);
     let x2 = digest(f, FIELDS, 1);

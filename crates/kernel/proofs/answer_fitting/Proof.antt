@@ -7,7 +7,7 @@ use Rattle.paper.specs.declared.Registers.{Registers}
 use Rattle.paper.specs.Requests as Q
 use Rattle.paper.specs.Requests.{kindOf, known}
 use Rattle.replies.specs.declared.Outcome.{Outcome}
-use Rattle.replies.specs.Outcomes.{outcome}
+use Rattle.replies.specs.Outcomes.{outcomeFor}
 use Rattle.places.proofs.Places.{free}
 use Rattle.kernel.specs.Fitting.{requestIn, answerFitting}
 use Rattle.kernel.proofs.Frames.{not-listed, arm, no-arm}
@@ -22,7 +22,7 @@ module _ (c : tie.After-byte-at) where
   abbrev r : Registers
   r = c .before .before .args .r
 
-  answered : (k : ℕ) {o : Outcome} → c .byte-at .result ≡ k → known k ≡ true → o ≡ outcome r k (requestIn k f)
+  answered : (k : ℕ) {o : Outcome} → c .byte-at .result ≡ k → known k ≡ true → o ≡ outcomeFor r k (requestIn k f)
       → o ≡ answerFitting r f
   answered k e = arm r f k (sym (c .byte-at .ensures) ∙ e)
 

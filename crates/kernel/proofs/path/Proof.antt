@@ -4,10 +4,10 @@ use Prim.Native.Nat.{ℕ, _*_}
 use native.Mathlib.Omega.{arith}
 use Rattle.paper.specs.Requests as Q
 use Rattle.paper.specs.Requests.{digestsIn}
-use Rattle.replies.specs.Outcomes.{outcome}
+use Rattle.replies.specs.Outcomes.{outcomeFor}
 use Rattle.places.specs.Places.{bytesAt}
 use Rattle.places.proofs.Places.{free}
-use Rattle.kernel.specs.Fitting.{pathIn}
+use Rattle.kernel.specs.Fitting.{pathRequestIn}
 use Rattle.kernel.proofs.Frames.{few-levels}
 use Rattle.kernel.proofs.path.Statement.{statement}
 use Rattle.kernel.proofs.path.Tie as tie
@@ -16,7 +16,7 @@ few : tie.Need-siblings-requires
 few c κs = omega (arith, c .levels .ensures, few-levels (c .before .before .args .f .now))
 
 returns : tie.Need-returns
-unfolding pathIn
+unfolding pathRequestIn
 returns c =
     let sides = c .before in
     let xn = sides .before in
@@ -27,7 +27,7 @@ returns c =
     let siblings = read .siblings .ensures
     ∙ ap (λ (m : ℕ). digestsIn m (bytesAt (a .f .now) 74 (32 * m))) (counted .levels .ensures) in
     c .path .ensures
-    ∙ (λ i. outcome (a .r) 1 (Q.path (x .digest .ensures i) (xn .digest2 .ensures i) (sides .number-at .ensures i) (siblings i)))
+    ∙ (λ i. outcomeFor (a .r) 1 (Q.path (x .digest .ensures i) (xn .digest2 .ensures i) (sides .number-at .ensures i) (siblings i)))
 
 pub path-spec : {M : Type 1} → statement M
 path-spec = tie.close (tie.spec free few free free free free returns)

@@ -7,12 +7,12 @@ use borrow.Author.Tests.{eqb-false}
 use Rattle.seqs.specs.Bytes.{be64}
 use Rattle.sha256.specs.Hash.{sha256}
 use Rattle.paper.specs.declared.Record.{Record}
-use Rattle.paper.specs.Strings.{Dig, u1, digest}
+use Rattle.paper.specs.Strings.{Dig, u1, digestOf}
 use Rattle.paper.specs.Refusals.{top, leafOf, leafForms}
 use Rattle.paper.specs.Answers.{raised}
 use Rattle.digests.specs.Worked.{worked}
 use Rattle.digests.proofs.Fit.{bytes-of, blocks-of}
-use Rattle.checks.specs.Steps.{afterChecks, ending, Concludes}
+use Rattle.checks.specs.Steps.{afterChecks, outcomeAtEnd, Concludes}
 use Rattle.checks.proofs.Steps.{step, last, still, held, both-formed, joined, spoken-as, finished-stopped, finished-as, lists-as, ran-to, formed, fits-one}
 use Rattle.places.proofs.Places.{free}
 use Rattle.list_kinds.specs.Changes.{recordAfter, changeChecks}
@@ -64,7 +64,7 @@ returns-2 c =
     let x = leaf .leaf-of .ensures in
     let xn =
     leafn .leaf-of2 .ensures
-    ∙ ap (λ (r : Record). worked (digest sha256 (leafOf sha256 A A′ r)) (leafForms sha256 A A′ r)) (new .record-after .ensures) in
+    ∙ ap (λ (r : Record). worked (digestOf sha256 (leafOf sha256 A A′ r)) (leafForms sha256 A A′ r)) (new .record-after .ensures) in
     let says = ap₂ (λ (d d′ : Dig). u1 d (y .digest .result) d′ (yn .digest2 .result)) (bytes-of x) (bytes-of xn) in
     let checks =
     step (seven .refuse-if .ensures)
@@ -81,7 +81,7 @@ returns-2 c =
             is =
                 done .is .is
                 ∙ (λ i.
-                ending (s .r)
+                outcomeAtEnd (s .r)
                 (afterChecks (s .j)
                 (changeChecks (s .r) (a .item .ensures i) (b .item2 .ensures i) (old .record-at .ensures i) (s .made)
                 (y .digest .ensures i) (yn .digest2 .ensures i) (m .digest3 .ensures i)))

@@ -4,7 +4,7 @@ use native.Mathlib.Omega.{arith}
 use Rattle.paper.specs.Requests as Q
 use Rattle.paper.specs.Refusals.{isShut}
 use Rattle.checks.specs.declared.Judged.{Judged}
-use Rattle.checks.specs.Steps.{unjudged, afterCheck, Next}
+use Rattle.checks.specs.Steps.{unjudged, afterCheck, CheckMade}
 use Rattle.checks.proofs.Steps.{step, last, by-test, answered}
 use Rattle.places.specs.Places.{bytesAt, requestAt}
 use Rattle.places.proofs.Places.{free}
@@ -21,7 +21,7 @@ returns c =
     let begun = shut .before in
     let secret = begun .before in
     let a = secret .before .before .args in
-    let first : Next unjudged (isShut (a .r)) (shut .refuse-if .result) =
+    let first : CheckMade unjudged (isShut (a .r)) (shut .refuse-if .result) =
     record { is = shut .refuse-if .ensures .is ∙ ap (λ (j : Judged). afterCheck j (isShut (a .r))) (begun .begin .ensures) } in
     answered (a .r) 16 (a .f .now) (λ i. Q.unlock (secret .digest .ensures i))
     (step first (last (by-test (zero .refuse-if2 .ensures) (test .is-zero .ensures)))) (c .finish .ensures) (omega arith)
