@@ -17,18 +17,33 @@ use Rattle.lines.proofs.read_line.Statement.{statement}
 use Rattle.lines.proofs.read_line.Tie as tie
 
 -- where the frame's own refusal is found: the line, that it is one of digits, and which refusal that is
-abbrev line : tie.After-refusal-by → List ℕ
-line c = c .before .before .before .before .before .before .before .before .args .line .now
+module _ (c : tie.After-refusal-by) where
+  abbrev number : tie.After-byte-at2
+  number = c .before .before
 
-hex : (c : tie.After-refusal-by) → isHex (line c) .fails ≡ false
-hex c = let t = c .before .before .before .before in sym (t .before .bad-line .ensures) ∙ t .if1 .left
+  abbrev kind : tie.After-byte-at
+  kind = number .before
 
-found : (c : tie.After-refusal-by) → c .refusal-by .result ≡ own (bytesOf (line c))
-found c =
-    let n = c .before .before in
-    let size = sym (bytes-length (line c)) in
-    c .refusal-by .ensures
-    ∙ own-found (bytesOf (line c)) (n .before .byte-at .ensures) size (n .byte-at2 .ensures) (c .before .sides-of .ensures)
+  abbrev digits : tie.Else1
+  digits = kind .before
+
+  abbrev tested : tie.After-bad-line
+  tested = digits .before
+
+  abbrev start : tie.Start
+  start = tested .before .before .before
+
+  abbrev line : List ℕ
+  line = start .args .line .now
+
+  hex : isHex line .fails ≡ false
+  hex = sym (tested .bad-line .ensures) ∙ digits .if1 .left
+
+  found : c .refusal-by .result ≡ own (bytesOf line)
+  found =
+      c .refusal-by .ensures
+      ∙ own-found (bytesOf line) (kind .byte-at .ensures) (sym (bytes-length line)) (number .byte-at2 .ensures)
+      (c .before .sides-of .ensures)
 
 returns : tie.Need-returns
 returns c = (sym (read-1 _ _ (sym (c .before .bad-line .ensures) ∙ c .if1 .taken)), refl)
@@ -45,13 +60,15 @@ returns-3 c =
 
 returns-4 : tie.Need-returns-4
 returns-4 c =
-    let room = c .before .before .before .before in
-    let t = room .before .before in
+    let read = c .before .before in
+    let room = read .before .before in
+    let fitting = room .before in
+    let t = fitting .before in
     let l = line t in
-    let d = t .before .before .before .before .before .before .before .before .args .frame .now in (
-      ap₂ (λ (k n : ℕ). Frame k n) (t .before .before .before .byte-at .ensures) (sym (bytes-length l))
-          ∙ sym (read-frame l (length d) (hex t) (sym (found t) ∙ room .before .if2 .left) (omega (arith, bytes-length l))),
-      c .before .before .read .ensures .1 ∙ written-fits (bytesOf l) d (length l / 2) (bytes-length l) (room .if3 .left),
+    let d = start t .args .frame .now in (
+      ap₂ (λ (k n : ℕ). Frame k n) (kind t .byte-at .ensures) (sym (bytes-length l))
+          ∙ sym (read-frame l (length d) (hex t) (sym (found t) ∙ fitting .if2 .left) (omega (arith, bytes-length l))),
+      read .read .ensures .1 ∙ written-fits (bytesOf l) d (length l / 2) (bytes-length l) (room .if3 .left),
     )
 
 pub read-line-spec : {M : Type 1} → statement M

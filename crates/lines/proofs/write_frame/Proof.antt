@@ -17,11 +17,15 @@ use Rattle.lines.proofs.write_frame.Statement.{statement}
 use Rattle.lines.proofs.write_frame.Tie as tie
 
 -- past the two tests of its length
-abbrev frame : tie.Else2 → List ℕ
-frame c = c .before .before .before .before .args .frame .now
+module _ (c : tie.Else2) where
+  abbrev start : tie.Start
+  start = c .before .before .before .before
 
-size : (c : tie.Else2) → isWritable (frame c) .fails ≡ false
-size c = rw (ne-eqb (length (frame c)) 0 (c .before .if1 .left), le-ltb longestFrame (length (frame c)) (c .if2 .left))
+  abbrev frame : List ℕ
+  frame = start .args .frame .now
+
+  size : isWritable frame .fails ≡ false
+  size = rw (ne-eqb (length frame) 0 (c .before .if1 .left), le-ltb longestFrame (length frame) (c .if2 .left))
 
 returns : tie.Need-returns
 returns c = (sym (write-1 _ _ (rw (eq-eqb _ 0 (c .if1 .taken)))), refl)
@@ -31,24 +35,29 @@ returns-2 c = (sym (write-1 _ _ (rw (ne-eqb _ 0 (c .before .if1 .left), lt-ltb l
 
 returns-3 : tie.Need-returns-3
 returns-3 c =
-    let own = c .before .frame-refusal .ensures in
-    let t = c .before .before in
-    (ap (λ (n : ℕ). Rejected n) own ∙ sym (write-own (frame t) _ (size t) (λ e. c .if3 .taken (own ∙ e))), refl)
+    let own = c .before in
+    let t = own .before in
+    let number = own .frame-refusal .ensures in
+    (ap (λ (n : ℕ). Rejected n) number ∙ sym (write-own (frame t) _ (size t) (λ e. c .if3 .taken (number ∙ e))), refl)
 
 returns-4 : tie.Need-returns-4
 returns-4 c =
-    let t = c .before .before .before in
-    (sym (write-15 (frame t) _ (size t) (sym (c .before .before .frame-refusal .ensures) ∙ c .before .if3 .left) (c .if4 .taken)), refl)
+    let fitting = c .before in
+    let own = fitting .before in
+    let t = own .before in
+    (sym (write-15 (frame t) _ (size t) (sym (own .frame-refusal .ensures) ∙ fitting .if3 .left) (c .if4 .taken)), refl)
 
 returns-5 : tie.Need-returns-5
 returns-5 c =
-    let room = c .before .before .before .before in
-    let own = room .before .before .frame-refusal .ensures in
-    let t = room .before .before .before in
+    let wrote = c .before .before in
+    let room = wrote .before .before in
+    let fitting = room .before in
+    let own = fitting .before in
+    let t = own .before in
     let f = frame t in
-    let d = t .before .before .before .before .args .line .now in (
-      sym (write-line f (length d) (size t) (sym own ∙ room .before .if3 .left) (room .if4 .left)),
-      c .before .before .write .ensures .1 ∙ written-fits (lineOf f) d (2 * length f + 1) (line-length f) (room .if4 .left),
+    let d = start t .args .line .now in (
+      sym (write-line f (length d) (size t) (sym (own .frame-refusal .ensures) ∙ fitting .if3 .left) (room .if4 .left)),
+      wrote .write .ensures .1 ∙ written-fits (lineOf f) d (2 * length f + 1) (line-length f) (room .if4 .left),
     )
 
 pub write-frame-spec : {M : Type 1} → statement M

@@ -6,7 +6,7 @@ use native.Mathlib.Omega.{arith}
 use lib.ListN.{length, drop, take, getD, length-take}
 use lib.Seq.{getD-take}
 use Rattle.sha256.specs.Hash.{sha256}
-use Rattle.paper.specs.Strings.{cost, up, upForms, foldUp, foldForms}
+use Rattle.paper.specs.Strings.{Dig, cost, up, upForms, foldUp, foldForms}
 use Rattle.digests.specs.Worked.{worked}
 use Rattle.digests.proofs.Fit.{blocks-of}
 use Rattle.tree_kinds.proofs.PathLaws.{level-cost, up-next, forms-next, up-end, forms-end}
@@ -27,33 +27,40 @@ loop-holds : tie.Need-loop-holds Inv-loop μ-loop
 loop-holds c = (search needs, search needs, refl, omega arith)
 
 -- the level that was worked, one up from the turn's beginning
-rise : (c : tie.After-level Inv-loop μ-loop)
-    → let k = c .before .before .before .loop in
-    let s = getD (c .before .before .before .before .args .t2) (k .i) [] in
-    c .level .result ≡ worked (up sha256 (k .u) s (k .bits % 2)) (upForms sha256 (k .u) s (k .bits % 2))
-rise c = c .level .ensures
+module _ (c : tie.After-level Inv-loop μ-loop) where
+  abbrev at : tie.At-loop Inv-loop μ-loop
+  at = c .before .before .before
 
-add-b : tie.Need-add-b Inv-loop μ-loop
-add-b c =
-    let k = c .before .before .before .before .before .loop in
-    let s = getD (c .before .before .before .before .before .before .args .t2) (k .i) [] in
-    omega (arith, blocks-of (rise (c .before .before)), level-cost (k .u) s (k .bits % 2))
+  abbrev start : tie.Start Inv-loop μ-loop
+  start = at .before
+
+  abbrev sibling : Dig
+  sibling = getD (start .args .t2) (at .loop .i) []
+
+  abbrev bit : ℕ
+  bit = at .loop .bits % 2
+
+  rise : c .level .result ≡ worked (up sha256 (at .loop .u) sibling bit) (upForms sha256 (at .loop .u) sibling bit)
+  rise = c .level .ensures
+
+  cheap : c .level .result .blocks ≤ 2
+  cheap = omega (arith, blocks-of rise, level-cost (at .loop .u) sibling bit)
 
 loop-again : tie.Need-loop-again Inv-loop μ-loop
 loop-again c =
-    let st = c .before .before .before .before .before .before in
-    let a = st .args in
-    let k = c .before .before .before .before .before .loop in
-    let s = getD (a .t2) (k .i) [] in
-    let d = c .before .before .level .result in
-    let e = rise (c .before .before) in
+    let done = c .before .before in
+    let a = start done .args in
+    let k = at done .loop in
+    let s = sibling done in
+    let d = done .level .result in
+    let e = rise done in
     let h : suc (k .i) ≤ a .n = omega arith in
-    let t : length (a .t2) ≡ 64 = st .good .1 .0 .1 .0 .1 in
+    let t : length (a .t2) ≡ 64 = start done .good .1 .0 .1 .0 .1 in
     let l = take (a .n) (a .t2) in
     let n : length l ≡ a .n = simp length-take (omega arith) in
     let g : getD l (k .i) [] ≡ s = getD-take (a .n) (a .t2) (k .i) [] h in (
       omega arith,
-      omega (arith, blocks-of e, level-cost (k .u) s (k .bits % 2)),
+      omega (arith, cheap done),
       k .inv .2 ∙ up-next (k .u) (k .bits) l (k .i) s g (omega arith) d e,
       forms-next (k .u) (k .bits) l (k .i) s g (omega arith) d e (k .b) _ (k .inv .3),
     )
@@ -76,6 +83,6 @@ fold-spec =
     Inv-loop
     μ-loop
     loop-holds
-    (λ c. search needs) (λ c. search needs) (search needs) add-b
+    (λ c. search needs) (λ c. search needs) (search needs) (λ c. omega (arith, cheap (c .before .before)))
     (λ c. search needs) (λ c. search needs) loop-again
     returns)
