@@ -30,7 +30,7 @@ use Rattle.runs.proofs.Live.{liveness}
 use Rattle.runs.proofs.Also.{also}
 use Rattle.session.specs.Replies.{toldOf, registersBehind}
 use Rattle.session.proofs.Whole.{registers-append}
-use Rattle.demands.specs.Demands.{Call, registersBehindCalls, Kept, turnsOfCalls, OneReply, AsDefined, RepliedAlong, Holds, ByValue, InPlace, MeetsByValue, MeetsInPlace, Input, callsByValue, callsInPlace, withReplyRoom, inOrder, Demands}
+use Rattle.demands.specs.Demands.{Call, registersBehindCalls, Kept, turnsOfCalls, OneReply, AsDefined, RepliedAlong, HoldsAfter, ByValue, InPlace, MeetsByValue, MeetsInPlace, CallInput, callsByValue, callsInPlace, withReplyRoom, inOrder, Demands}
 
 -- ── one call ──
 
@@ -87,7 +87,7 @@ replied k (c ∷ cs) h =
       replied k cs (h .1),
     )
 
-holds : (k : Dig) (cs : List Call) → Kept k cs → Holds k cs
+holds : (k : Dig) (cs : List Call) → Kept k cs → HoldsAfter k cs
 holds k cs h =
     let e = along k cs h in
     record {
@@ -99,11 +99,11 @@ holds k cs h =
           (subst (λ (s : Registers). s .counter .0 < top) e b);
     }
 
-kept-by-value : (m : ByValue) → MeetsByValue m → (k : Dig) (is : List Input) → Kept k (callsByValue m k is)
+kept-by-value : (m : ByValue) → MeetsByValue m → (k : Dig) (is : List CallInput) → Kept k (callsByValue m k is)
 kept-by-value m h k [] = tt
 kept-by-value m h k (i ∷ is) = (h (registersBehindCalls k (callsByValue m k is)) (i .line) (i .space), kept-by-value m h k is)
 
-kept-in-place : (m : InPlace) → MeetsInPlace m → (k : Dig) (is : List Input) → Kept k (callsInPlace m k is)
+kept-in-place : (m : InPlace) → MeetsInPlace m → (k : Dig) (is : List CallInput) → Kept k (callsInPlace m k is)
 kept-in-place m h k [] = tt
 kept-in-place m h k (i ∷ is) = (h (registersBehindCalls k (callsInPlace m k is)) (i .line) (i .space), kept-in-place m h k is)
 

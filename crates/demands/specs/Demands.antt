@@ -18,11 +18,11 @@ use Rattle.lines.specs.RoundTrip.{WrittenReads, ReadWrites, OneLine}
 use Rattle.module.specs.declared.Answered.{Answered}
 use Rattle.module.specs.declared.Replied.{Replied}
 use Rattle.module.specs.Answering.{answered, answeredOf}
-use Rattle.module.specs.Laws.{Promised, RefusalIsFirst, RefusalKeeps, OnlyTheReply, ReplyFits, UnderTheCeiling, Opens, RefusingBreaks, OlderMemorandum}
+use Rattle.module.specs.Laws.{Promised, RefusalIsFirst, RefusalKeeps, OnlyTheReply, ReplyFits, UnderTheCeiling, SecretOpens, RefusingBreaks, OlderMemorandum}
 use Rattle.runs.specs.Run.{LineTurn, after}
 use Rattle.runs.specs.Endings.{Ending}
-use Rattle.runs.specs.Safety.{Safe}
-use Rattle.runs.specs.Liveness.{AllGrantable, Live}
+use Rattle.runs.specs.Safety.{SafeRun}
+use Rattle.runs.specs.Liveness.{AllGrantable, LiveAt}
 use Rattle.runs.specs.Also.{AlsoFor}
 use Rattle.session.specs.Replies.{registersBehind}
 
@@ -71,7 +71,7 @@ pub record FirstDemand : Type 0 where
   pub only-the-reply : OnlyTheReply
   pub reply-fits : ReplyFits
   -- and it does not refuse everything, open or not
-  pub opens : Opens
+  pub opens : SecretOpens
   pub not-all-refused : RefusingBreaks
 
 -- ── the second demand ──
@@ -101,15 +101,15 @@ RepliedAlong k (c ∷ cs) =
     (c .came ≡ answeredOf told) × (c .left ≡ spaceAfter told (c .space)) × RepliedAlong k cs
 
 -- "Start from an unopened module and feed any lines. After each ..", until something one can show
-pub record Holds (k : Dig) (cs : List Call) : Type 0 where
+pub record HoldsAfter (k : Dig) (cs : List Call) : Type 0 where
   -- the registers are those of the run of these lines, and so are the replies
   pub registers : registersBehindCalls k cs ≡ after sha256 k (turnsOfCalls cs) .registers
   pub replies : RepliedAlong k cs
   -- the root is that of a tree that holds just the replayed list, the counter counts, every answer was true and every change legal
-  pub safe : Ending sha256 k (turnsOfCalls cs) ⊎ Safe sha256 k (turnsOfCalls cs)
+  pub safe : Ending sha256 k (turnsOfCalls cs) ⊎ SafeRun sha256 k (turnsOfCalls cs)
   -- "once open and while the counter is below its top", every legal change and every question has honest lines
   pub live : registersBehindCalls k cs .opened ≡ true → registersBehindCalls k cs .counter .0 < top
-      → Ending sha256 k (turnsOfCalls cs) ⊎ Live sha256 (after sha256 k (turnsOfCalls cs))
+      → Ending sha256 k (turnsOfCalls cs) ⊎ LiveAt sha256 (after sha256 k (turnsOfCalls cs))
 
 -- a function on registers by value, and one on registers where they lie, which leaves registers beside what it returns; each leaves
 -- a reply space
@@ -127,26 +127,26 @@ MeetsInPlace m = (s : Registers) (line space : List ℕ)
     → Promised s line space (answered (m s line space .0) (m s line space .1)) (m s line space .2)
 
 -- what was handed over at a call: a line and a reply space
-pub record Input : Type 0 where
+pub record CallInput : Type 0 where
   pub line : List ℕ
   pub space : List ℕ
 
 -- the calls of such a function, one after the other, the latest first
-abbrev pub callByValue : ByValue → Registers → Input → Call
+abbrev pub callByValue : ByValue → Registers → CallInput → Call
 callByValue m s i =
     let o = m s (i .line) (i .space) in
     record { line = i .line; space = i .space; came = o .0; left = o .1 }
 
-abbrev pub callsByValue : ByValue → (secret : Dig) → List Input → List Call
+abbrev pub callsByValue : ByValue → (secret : Dig) → List CallInput → List Call
 callsByValue m k [] = []
 callsByValue m k (i ∷ is) = callByValue m (registersBehindCalls k (callsByValue m k is)) i ∷ callsByValue m k is
 
-abbrev pub callInPlace : InPlace → Registers → Input → Call
+abbrev pub callInPlace : InPlace → Registers → CallInput → Call
 callInPlace m s i =
     let o = m s (i .line) (i .space) in
     record { line = i .line; space = i .space; came = answered (o .0) (o .1); left = o .2 }
 
-abbrev pub callsInPlace : InPlace → (secret : Dig) → List Input → List Call
+abbrev pub callsInPlace : InPlace → (secret : Dig) → List CallInput → List Call
 callsInPlace m k [] = []
 callsInPlace m k (i ∷ is) = callInPlace m (registersBehindCalls k (callsInPlace m k is)) i ∷ callsInPlace m k is
 
@@ -163,10 +163,10 @@ pub record ThirdDemand : Type 0 where
   -- there is a function that meets the contract, so what follows is of something
   pub some-function : (m : ByValue) × MeetsByValue m
   -- any calls that each meet the contract
-  pub any-calls : (k : Dig) (cs : List Call) → Kept k cs → Holds k cs
+  pub any-calls : (k : Dig) (cs : List Call) → Kept k cs → HoldsAfter k cs
   -- so any function that meets it, by value or in place
-  pub by-value : (m : ByValue) → MeetsByValue m → (k : Dig) (is : List Input) → Holds k (callsByValue m k is)
-  pub in-place : (m : InPlace) → MeetsInPlace m → (k : Dig) (is : List Input) → Holds k (callsInPlace m k is)
+  pub by-value : (m : ByValue) → MeetsByValue m → (k : Dig) (is : List CallInput) → HoldsAfter k (callsByValue m k is)
+  pub in-place : (m : InPlace) → MeetsInPlace m → (k : Dig) (is : List CallInput) → HoldsAfter k (callsInPlace m k is)
   -- what an ending is and is not, that the root settles the list, what every memorandum means, and the other laws of runs
   pub also : AlsoFor sha256
   -- honest lines from any registers, tree and list that stand, with no run before them

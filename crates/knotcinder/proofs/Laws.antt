@@ -19,7 +19,7 @@ use Rattle.session.specs.Replies.{toldOf, repliesTo}
 use Rattle.session.specs.Serving.{SessionAt, sessionWith, carrying}
 use Rattle.session.proofs.Whole.{registers-append}
 use Rattle.knotcinder.specs.declared.Left.{Left}
-use Rattle.knotcinder.specs.Loop.{Reached, Due, Standing, Through}
+use Rattle.knotcinder.specs.Loop.{ReachedByLines, Due, Standing, Through}
 
 -- ── a piece ──
 
@@ -63,7 +63,8 @@ standing-next {p = p} {o = o} t g h =
 
 -- ── what is written ──
 
-reached-by : (b : ℕ) (c : SessionAt) (v : Bool) → endsLine b ≡ v → Reached (c .registers) → Reached (feedByte carrying c b .registers)
+reached-by : (b : ℕ) (c : SessionAt) (v : Bool) → endsLine b ≡ v → ReachedByLines (c .registers)
+    → ReachedByLines (feedByte carrying c b .registers)
 reached-by b c true e f =
     let l = lineHeld (c .held) in
     rw e (record {
@@ -72,14 +73,15 @@ reached-by b c true e f =
     })
 reached-by b c false e f = rw e f
 
-reached-in : (s : List ℕ) (c : SessionAt) → Reached (c .registers) → Reached (feedBytes carrying s c .registers)
+reached-in : (s : List ℕ) (c : SessionAt) → ReachedByLines (c .registers) → ReachedByLines (feedBytes carrying s c .registers)
 reached-in [] c f = f
 reached-in (b ∷ s) c f = reached-in s (feedByte carrying c b) (reached-by b c (endsLine b) refl f)
 
-pub reached-next : (s : List ℕ) (c c′ : SessionAt) → c′ ≡ feedBytes carrying s c → Reached (c .registers) → Reached (c′ .registers)
-reached-next s c c′ e f = subst (λ (x : SessionAt). Reached (x .registers)) (sym e) (reached-in s c f)
+pub reached-next : (s : List ℕ) (c c′ : SessionAt) → c′ ≡ feedBytes carrying s c → ReachedByLines (c .registers)
+    → ReachedByLines (c′ .registers)
+reached-next s c c′ e f = subst (λ (x : SessionAt). ReachedByLines (x .registers)) (sym e) (reached-in s c f)
 
-pub standing-reached : {s : Registers} {d : List ℕ} {n : ℕ} → Standing s d n → Reached s
+pub standing-reached : {s : Registers} {d : List ℕ} {n : ℕ} → Standing s d n → ReachedByLines s
 standing-reached {s = s} {d = d} {n = n} t =
     reached-next (t .input) (sessionWith (unopened nought) (t .space) 0) (sessionWith s d n) (sym (t .leads))
     (record { lines = []; after = refl })
@@ -94,7 +96,7 @@ kept-front d k e n h j f =
     let front = front-next e (take n d) n n start (rw z at f) long (omega arith) (omega arith) in
     rw (z, front .here) (take-at (take n d) (drop n k) n long)
 
-module _ {s : Registers} (reached : Reached s) where
+module _ {s : Registers} (reached : ReachedByLines s) where
   -- behind a call of `serve`, with what was held before it kept in e
   pub due-served : (p d k e out : List ℕ) (at next n w : ℕ)
       → n ≤ length d → length d ≤ length k → e ≡ putAt k 0 (take (n - 0) d) → at < next → next ≤ length p

@@ -18,7 +18,7 @@ use Rattle.knotcinder.specs.declared.Left.{Left}
 -- ── what may be written ──
 
 -- Registers that some lines lead to from a module that nobody has opened.
-pub record Reached (s : Registers) : Type 0 where
+pub record ReachedByLines (s : Registers) : Type 0 where
   pub lines : List (List ℕ)
   pub after : s ≡ registersBehind (unopened nought) lines
 
@@ -26,7 +26,7 @@ pub record Reached (s : Registers) : Type 0 where
 -- then b is due, exactly the replies to the lines that end in the part, each on the registers that the one before it left.
 -- So there is one b that may be written, and it is empty only where no line ends in the part. The part is not empty.
 pub record Due (s : Registers) (held part b : List ℕ) : Type 0 where
-  pub reached : Reached s
+  pub reached : ReachedByLines s
   pub onward : 0 < length part
   pub bytes : b ≡ repliesTo s (endedIn held part)
 

@@ -28,7 +28,7 @@ use Rattle.module.proofs.Laws.{with-room, is-hex}
 use Rattle.module.specs.declared.Answered.{Answered}
 use Rattle.module.specs.declared.Replied.{Replied}
 use Rattle.module.specs.Answering.{answeredOf}
-use Rattle.module.specs.Laws.{RefusalKeeps, RefusalIsFirst, OnlyTheReply, ReplyFits, OneOutcome, OneOutcomeHere, UnderTheCeiling, OlderMemorandum, Opens, RefusingBreaks}
+use Rattle.module.specs.Laws.{RefusalKeeps, RefusalIsFirst, OnlyTheReply, ReplyFits, OneOutcome, OneOutcomeHere, UnderTheCeiling, OlderMemorandum, SecretOpens, RefusingBreaks}
 
 -- what comes back beside the registers
 abbrev repliedOf : Answered → Replied
@@ -160,7 +160,7 @@ module _ (k : Dig) (n : length k ≡ 32) (bs : Bytes k) (z : allZero k ≡ false
       with-room s (digitsOf frame) space r ∙ is-hex s (digitsOf frame) is-line ∙ ap (answerFrame sha256 s) frame-bytes
       ∙ framed s h
 
-pub opens : Opens
+pub opens : SecretOpens
 opens s k space after o h n bs z r p =
     let e : o ≡ answeredOf (toldBy sha256 s 0x10 (Q.unlock k) (allPassed [])) =
     p .returned ∙ ap answeredOf (accepted k n bs z s (length space) h r) in

@@ -77,8 +77,8 @@ OlderMemorandum = (s₀ s : Registers) (line₀ line space₀ space after : List
     (answerTo sha256 s₀ line₀ (length space₀) .formed ++ answerTo sha256 s line (length space) .formed)
 
 -- a module that is not open takes any secret that is not all zero
-abbrev pub Opens : Type 0
-Opens = (s : Registers) (secret space after : List ℕ) (o : Answered) → s .opened ≡ false
+abbrev pub SecretOpens : Type 0
+SecretOpens = (s : Registers) (secret space after : List ℕ) (o : Answered) → s .opened ≡ false
     → length secret ≡ 32 → Bytes secret → allZero secret ≡ false → replyRoom ≤ length space
     → Promised s (digitsOf (0x10 ∷ secret)) space o after
     → (o .refused ≡ 0) × (o .registers ≡ unlocked s secret)

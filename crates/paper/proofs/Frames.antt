@@ -9,7 +9,7 @@ use lib.ListN.{length, getD, take, drop}
 use lib.Seq.{getD-drop, drop-drop}
 use Rattle.seqs.specs.Choose.{both, both-true, both-right}
 use Rattle.seqs.specs.Bytes.{numberOf}
-use Rattle.paper.specs.Requests.{Carried, aNumber, aDigest, aRecord, theValues, aPath, Kind, unlock, kinds, kindOf, rowOf, takesAll, soundAll, fits, mostSiblings}
+use Rattle.paper.specs.Requests.{Carried, aNumber, aDigest, aRecord, theValues, aPath, KindRow, unlock, kinds, kindOf, rowOf, takesAll, soundAll, fits, mostSiblings}
 use Rattle.paper.specs.Refusals.{beforeSiblings}
 
 -- ── a path ──
@@ -69,21 +69,21 @@ fixed (theValues ∷ cs) l h = let a = fixed cs (drop 24 l) h in let b = fixed c
 fixed (aPath ∷ cs) l h = (cc, cc)
 
 -- the length of each kind's frame, by the kind; of a path the shortest
-abbrev lengthsOf : List Kind → List ℕ
+abbrev lengthsOf : List KindRow → List ℕ
 lengthsOf [] = []
 lengthsOf (k ∷ l) = (1 + takesAll (k .carries) []) ∷ lengthsOf l
 
 unfoldable pub lengths : List ℕ
 lengths = 0 ∷ lengthsOf kinds
 
-abbrev noPaths : List Kind → Bool
+abbrev noPaths : List KindRow → Bool
 noPaths [] = true
 noPaths (k ∷ l) = both (noPath (k .carries)) (noPaths l)
 
-abbrev none-such : Kind
+abbrev none-such : KindRow
 none-such = record { carries = []; reads = λ p. unlock [] }
 
-row : (ks : List Kind) (i : ℕ) → noPaths ks ≡ true
+row : (ks : List KindRow) (i : ℕ) → noPaths ks ≡ true
     → (noPath (getD ks i none-such .carries) ≡ true) × (1 + takesAll (getD ks i none-such .carries) [] ≡ getD (lengthsOf ks) i 1)
 row [] i h = (refl, refl)
 row (k ∷ ks) zero h = (both-true (noPath (k .carries)) (noPaths ks) h .0, refl)

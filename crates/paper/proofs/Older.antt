@@ -17,7 +17,7 @@ use Rattle.paper.specs.declared.Record.{Record}
 use Rattle.paper.specs.declared.Values.{Values}
 use Rattle.paper.specs.declared.Registers.{Registers}
 use Rattle.paper.specs.Strings.{Dig, nought, Memo, Str, leaf, entry, enc, digestOf, memorandum, blank, recordForms, recordHash}
-use Rattle.paper.specs.Requests.{Request, setTo, recordIn, valuesIn, Kind, kinds, kindOf, rowOf, takesAll, part, soundAll, fits, requestOf}
+use Rattle.paper.specs.Requests.{Request, setTo, recordIn, valuesIn, KindRow, kinds, kindOf, rowOf, takesAll, part, soundAll, fits, requestOf}
 use Rattle.paper.specs.Refusals.{Check, order, roomFor, replyRoom, isHex, top, nextRecord, numbersBefore, carriedMemoranda, leafOf, leafForms, changeForms, changeSays, needs, applies, formedAt, judge, Passed}
 use Rattle.paper.specs.Module.{frameChecks, Told, toldBy, answerTo}
 use Rattle.paper.specs.Collisions.{Collision}
@@ -111,7 +111,7 @@ set-line : (line : List ℕ) → kindOf (bytesOf line) ≡ 0x0c → SetLine line
 unfolding requestOf kinds fits
 set-line line k =
     let f : List ℕ = bytesOf line in
-    let row : ℕ → Kind = rowOf in
+    let row : ℕ → KindRow = rowOf in
     let p : ℕ → List ℕ = part (row 0x0c .carries) (drop 1 f) in
     record {
       A = numberOf (p 0);

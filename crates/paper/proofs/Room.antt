@@ -18,7 +18,7 @@ use Rattle.paper.specs.declared.Registers.{Registers}
 use Rattle.paper.specs.declared.Finding.the-variants.{Recorded, Listed, Gap}
 use Rattle.paper.specs.Strings.{Dig, Memo, enc, node, u1, blank, memorandum, H, up, foldUp}
 use Rattle.paper.specs.Requests as Q
-use Rattle.paper.specs.Requests.{Carried, aNumber, aDigest, aRecord, theValues, aPath, countIn, sidesIn, digestsIn, siblingsIn, Kind, kinds, kindOf, rowOf, takes, part, requestOf}
+use Rattle.paper.specs.Requests.{Carried, aNumber, aDigest, aRecord, theValues, aPath, countIn, sidesIn, digestsIn, siblingsIn, KindRow, kinds, kindOf, rowOf, takes, part, requestOf}
 use Rattle.paper.specs.Refusals.{Check, order, replyRoom, applies, Verdict, refusedBy, allPassed, judge, Passed, FirstToApply}
 use Rattle.paper.specs.Answers.{findingOf, findingBytes, answer}
 use Rattle.paper.specs.Module.{toldBy, checksOf, answerTo, replyLine}
@@ -124,15 +124,15 @@ module _ (D : List ℕ → Dig) (D32 : (l : List ℕ) → length (D l) ≡ 32) w
   memo-short : (t : Memo) (k : Dig) → length (memorandum D t k) ≤ 96
   memo-short t k = omega (arith, memorandum-32 D D32 t k)
 
-  abbrev Brief : Kind → Type 0
+  abbrev Brief : KindRow → Type 0
   Brief k = (s : Registers) (p : ℕ → List ℕ) → ((i : ℕ) → ShortAt (k .carries) i (p i))
       → length (answer D s (k .reads p) .lists) ≤ 96
 
-  abbrev AllBrief : List Kind → Type 0
+  abbrev AllBrief : List KindRow → Type 0
   AllBrief [] = Unit {0}
   AllBrief (k ∷ ks) = Brief k × AllBrief ks
 
-  brief-row : (ks : List Kind) (d : Kind) (i : ℕ) → AllBrief ks → Brief d → Brief (getD ks i d)
+  brief-row : (ks : List KindRow) (d : KindRow) (i : ℕ) → AllBrief ks → Brief d → Brief (getD ks i d)
   brief-row [] d i h g = g
   brief-row (k ∷ ks) d zero h g = h .0
   brief-row (k ∷ ks) d (suc i) h g = brief-row ks d i (h .1) g

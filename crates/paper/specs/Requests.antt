@@ -80,12 +80,12 @@ valuesIn l =
     }
 
 -- a row: what the kind carries, and the request that its parts make, part i being the i-th thing carried
-pub record Kind : Type 0 where
+pub record KindRow : Type 0 where
   pub carries : List Carried
   pub reads : (ℕ → List ℕ) → Request
 
 -- the table, from kind 01 on: each row names its parts in their order
-unfoldable pub kinds : List Kind
+unfoldable pub kinds : List KindRow
 kinds =
     -- 01 path: x, x', n (1 byte), sides (8), n siblings
     record {
@@ -200,7 +200,7 @@ known k = both (leb 1 k) (leb k (length kinds))
 
 -- a kind that is not in the table has no row; what stands here for it (for kind 0, the row of 01) decides nothing, since 2
 -- comes first
-abbrev pub rowOf : ℕ → Kind
+abbrev pub rowOf : ℕ → KindRow
 rowOf k = getD kinds (k - 1) (record { carries = []; reads = λ p. unlock [] })
 
 -- how many of the bytes l a carried thing takes, those of a path by its n

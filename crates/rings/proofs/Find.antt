@@ -8,7 +8,7 @@ use native.Mathlib.Decide.{decLt}
 use native.Mathlib.Omega.{arith}
 use Rattle.paper.specs.Strings.{Dig}
 use Rattle.rings.specs.Trees.{TreeLeaf, points, count}
-use Rattle.rings.specs.Lists.{ListItem, itemWith, Ascending, OnList, Unlisted, chainOf, ring}
+use Rattle.rings.specs.Lists.{ListItem, itemWith, AscendingFrom, OnList, Unlisted, chainOf, ring}
 use Rattle.rings.proofs.Counting.{count-head, count-tail}
 use Rattle.rings.proofs.Gaps.{Gap, between, beyond, before}
 
@@ -69,7 +69,7 @@ module _ {R : Type 0} (h : R → Dig) where
   item-leaf q s (itemWith a r ∷ l) m = item-chain q s a r l a m
 
   -- the last leaf of a chain
-  last-leaf : (a : ℕ) (r : R) (l : List (ListItem R)) (z : ℕ) → Ascending a l
+  last-leaf : (a : ℕ) (r : R) (l : List (ListItem R)) (z : ℕ) → AscendingFrom a l
       → (p : ℕ) × (w : Dig) × (a ≤ p) × (0 < count (points p z w) (chainOf h a r l z))
   last-leaf a r [] z g = (a, h r, omega arith, count-head _ _ _ refl)
   last-leaf a r (itemWith b s ∷ l) z g =
@@ -78,7 +78,7 @@ module _ {R : Type 0} (h : R → Dig) where
 
   -- ── the leaf in whose gap an unlisted number lies ──
 
-  spot-chain : (q a : ℕ) (r : R) (l : List (ListItem R)) (z : ℕ) → z ≤ a → Ascending a l → a < q → Unlisted q l
+  spot-chain : (q a : ℕ) (r : R) (l : List (ListItem R)) (z : ℕ) → z ≤ a → AscendingFrom a l → a < q → Unlisted q l
       → Spot q (chainOf h a r l z)
   spot-chain q a r [] z hz g k f =
       record {
@@ -100,7 +100,7 @@ module _ {R : Type 0} (h : R → Dig) where
         | no n ↦ spot-behind _ (spot-chain q b s l z (omega (arith, g .0)) (g .1) (omega (arith, f .0)) (f .1))
       ]
 
-  pub spot : (q a : ℕ) (r : R) (l : List (ListItem R)) → 0 < q → Ascending 0 (itemWith a r ∷ l) → Unlisted q (itemWith a r ∷ l)
+  pub spot : (q a : ℕ) (r : R) (l : List (ListItem R)) → 0 < q → AscendingFrom 0 (itemWith a r ∷ l) → Unlisted q (itemWith a r ∷ l)
       → Spot q (ring h (itemWith a r ∷ l))
   spot q a r l hq g f = go (decLt q a)
     where
@@ -118,7 +118,7 @@ module _ {R : Type 0} (h : R → Dig) where
 
   -- ── a listed item with its two leaves, where another item is listed too ──
 
-  near-chain : (q : ℕ) (s : R) (a : ℕ) (r : R) (l : List (ListItem R)) (z : ℕ) → z ≤ a → Ascending a l → OnList q s l
+  near-chain : (q : ℕ) (s : R) (a : ℕ) (r : R) (l : List (ListItem R)) (z : ℕ) → z ≤ a → AscendingFrom a l → OnList q s l
       → Near q (h s) (chainOf h a r l z)
   near-chain q s a r [] z hz g m = elim m [ ]
   near-chain q s a r (itemWith b t ∷ l) z hz g m =
@@ -127,7 +127,7 @@ module _ {R : Type 0} (h : R → Dig) where
         | inr k ↦ near-behind _ (near-chain q s b t l z (omega (arith, g .0)) (g .1) k)
       ]
     where
-      here : (l : List (ListItem R)) → Ascending b l → itemWith q s ≡ itemWith b t
+      here : (l : List (ListItem R)) → AscendingFrom b l → itemWith q s ≡ itemWith b t
           → Near q (h s) (points a b (h r) ∷ chainOf h b t l z)
       here [] k e =
           let p : q ≡ b = cc in
@@ -150,7 +150,7 @@ module _ {R : Type 0} (h : R → Dig) where
             next = count-tail _ _ _ (count-head _ _ _ (cc));
           }
 
-  pub near : (q : ℕ) (s : R) (a : ℕ) (r : R) (b : ℕ) (t : R) (l : List (ListItem R)) → Ascending 0 (itemWith a r ∷ itemWith b t ∷ l)
+  pub near : (q : ℕ) (s : R) (a : ℕ) (r : R) (b : ℕ) (t : R) (l : List (ListItem R)) → AscendingFrom 0 (itemWith a r ∷ itemWith b t ∷ l)
       → OnList q s (itemWith a r ∷ itemWith b t ∷ l) → Near q (h s) (ring h (itemWith a r ∷ itemWith b t ∷ l))
   near q s a r b t l g m = go (List·Memᴰ·cases-cons m)
     where

@@ -10,10 +10,10 @@ use lib.ListN.{length}
 use Rattle.paper.specs.declared.Record.{Record}
 use Rattle.paper.specs.Strings.{Dig, nought, Str, leaf, malformed, inGap, recordForms, parentForms, digestOf, recordHash, H}
 use Rattle.paper.specs.Refusals.{placeForms, leafOf, leafForms, changeForms}
-use Rattle.rings.specs.Trees.{points, Tree, leaves, hashOf, Permuted}
+use Rattle.rings.specs.Trees.{points, Tree, leaves, hashOf, SameLeaves}
 use Rattle.rings.specs.Lists.{ListItem, OnList, Unlisted, ring}
 use Rattle.rings.specs.Changes.{Step, removal}
-use Rattle.rings.specs.Meanings.{_∈_, Within, MeansU1, MeansV1, MeansU2, hashRecord, RecordKnown, StandsFor, Fault, Moved, MeansEI}
+use Rattle.rings.specs.Meanings.{_∈_, Within, MeansU1, MeansV1, MeansU2, hashRecord, RecordKnown, StandsFor, Fault, TreeMoved, MeansEI}
 use Rattle.rings.proofs.Nodes.{_>>=_}
 use Rattle.rings.proofs.Gaps.{gap-holds}
 use Rattle.rings.proofs.TreeKinds as T
@@ -28,7 +28,7 @@ module _ (D : List ℕ → Dig) (D32 : (l : List ℕ) → length (D l) ≡ 32) (
   digestD = digestOf D
 
   -- what demand 3 says of the tree
-  pub holds-ring : {T : Tree} {ls : List (ListItem Record)} → StandsFor digestD F T ls → Permuted (leaves T) (ring (recordHash D) ls)
+  pub holds-ring : {T : Tree} {ls : List (ListItem Record)} → StandsFor digestD F T ls → SameLeaves (leaves T) (ring (recordHash D) ls)
   unfolding recordHash hashRecord
   holds-ring g = g .permuted
 
@@ -61,7 +61,7 @@ module _ (D : List ℕ → Dig) (D32 : (l : List ℕ) → length (D l) ≡ 32) (
 
   -- 0b adopt: what its memorandum stands for is done, and was legal
   pub adopt : {y y′ : Dig} {c : List Step} (T : Tree) (ls : List (ListItem Record)) → MeansEI digestD F y y′ c → hashOf D T ≡ y
-      → StandsFor digestD F T ls → Fault digestD F ⊎ Moved digestD F y′ c ls
+      → StandsFor digestD F T ls → Fault digestD F ⊎ TreeMoved digestD F y′ c ls
   adopt T ls m e g = m .forth F (λ s i. i) T ls (sym (hash-is D D32 T) ∙ e) g
 
   -- a leaf's strings: the record is known and the leaf formed

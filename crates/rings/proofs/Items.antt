@@ -10,7 +10,7 @@ use native.Mathlib.Omega.{arith}
 use borrow.Author.Tests.{ltb-true, ltb-false, eq-eqb}
 use lib.Dec.{eqb, ltb}
 use Rattle.seqs.specs.Choose.{pick}
-use Rattle.rings.specs.Lists.{ListItem, itemWith, Ascending, OnList, Unlisted, insert, remove, putRecord}
+use Rattle.rings.specs.Lists.{ListItem, itemWith, AscendingFrom, OnList, Unlisted, insert, remove, putRecord}
 use Rattle.rings.specs.Meanings.{AllRecords}
 
 module _ {R : Type 0} where
@@ -24,15 +24,15 @@ module _ {R : Type 0} where
 
   -- ── above a number ──
 
-  ascending-from : {b c : ℕ} (l : List (ListItem R)) → c ≤ b → Ascending b l → Ascending c l
+  ascending-from : {b c : ℕ} (l : List (ListItem R)) → c ≤ b → AscendingFrom b l → AscendingFrom c l
   ascending-from [] h g = tt
   ascending-from (itemWith a r ∷ l) h g = (omega arith, g .1)
 
-  pub unlisted-below : (b q : ℕ) (l : List (ListItem R)) → q ≤ b → Ascending b l → Unlisted q l
+  pub unlisted-below : (b q : ℕ) (l : List (ListItem R)) → q ≤ b → AscendingFrom b l → Unlisted q l
   unlisted-below b q [] h g = tt
   unlisted-below b q (itemWith a r ∷ l) h g = (omega arith, unlisted-below a q l (omega arith) (g .1))
 
-  pub listed-above : (b q : ℕ) (r : R) (l : List (ListItem R)) → Ascending b l → OnList q r l → b < q
+  pub listed-above : (b q : ℕ) (r : R) (l : List (ListItem R)) → AscendingFrom b l → OnList q r l → b < q
   listed-above b q r [] g m = elim m [ ]
   listed-above b q r (itemWith a s ∷ l) g m =
       elim (List·Memᴰ·cases-cons m) [
@@ -51,14 +51,14 @@ module _ {R : Type 0} where
 
   -- ── insert ──
 
-  pub insert-ascending : (b q : ℕ) (r : R) (l : List (ListItem R)) → b < q → Unlisted q l → Ascending b l
-      → Ascending b (insert q r l)
+  pub insert-ascending : (b q : ℕ) (r : R) (l : List (ListItem R)) → b < q → Unlisted q l → AscendingFrom b l
+      → AscendingFrom b (insert q r l)
   unfolding insert
   insert-ascending b q r [] h f g = (h, tt)
   insert-ascending b q r (itemWith a s ∷ l) h f g = go (ltb q a) refl (λ k. insert-ascending a q r l k (f .1) (g .1))
     where
-      go : (t : Bool) → ltb q a ≡ t → (a < q → Ascending a (insert q r l))
-          → Ascending b (pick t (itemWith q r ∷ itemWith a s ∷ l) (itemWith a s ∷ insert q r l))
+      go : (t : Bool) → ltb q a ≡ t → (a < q → AscendingFrom a (insert q r l))
+          → AscendingFrom b (pick t (itemWith q r ∷ itemWith a s ∷ l) (itemWith a s ∷ insert q r l))
       go true e u = (h, (ltb-true q a e, g .1))
       go false e u = (g .0, u (omega (arith, ltb-false q a e, f .0)))
 
@@ -77,12 +77,12 @@ module _ {R : Type 0} where
   unfolding remove
   remove-head a r l = rw (eq-eqb a a refl) refl
 
-  pub remove-ascending : (b q : ℕ) (l : List (ListItem R)) → Ascending b l → Ascending b (remove q l)
+  pub remove-ascending : (b q : ℕ) (l : List (ListItem R)) → AscendingFrom b l → AscendingFrom b (remove q l)
   unfolding remove
   remove-ascending b q [] g = tt
   remove-ascending b q (itemWith a s ∷ l) g = go (eqb q a) (remove-ascending a q l (g .1))
     where
-      go : (t : Bool) → Ascending a (remove q l) → Ascending b (pick t l (itemWith a s ∷ remove q l))
+      go : (t : Bool) → AscendingFrom a (remove q l) → AscendingFrom b (pick t l (itemWith a s ∷ remove q l))
       go true u = ascending-from l (omega (arith, g .0)) (g .1)
       go false u = (g .0, u)
 
@@ -97,12 +97,12 @@ module _ {R : Type 0} where
 
   -- ── put a record ──
 
-  pub put-ascending : (b q : ℕ) (r : R) (l : List (ListItem R)) → Ascending b l → Ascending b (putRecord q r l)
+  pub put-ascending : (b q : ℕ) (r : R) (l : List (ListItem R)) → AscendingFrom b l → AscendingFrom b (putRecord q r l)
   unfolding putRecord
   put-ascending b q r [] g = tt
   put-ascending b q r (itemWith a s ∷ l) g = go (eqb q a) (put-ascending a q r l (g .1))
     where
-      go : (t : Bool) → Ascending a (putRecord q r l) → Ascending b (pick t (itemWith a r ∷ l) (itemWith a s ∷ putRecord q r l))
+      go : (t : Bool) → AscendingFrom a (putRecord q r l) → AscendingFrom b (pick t (itemWith a r ∷ l) (itemWith a s ∷ putRecord q r l))
       go true u = (g .0, g .1)
       go false u = (g .0, u)
 
@@ -125,13 +125,13 @@ module _ {R : Type 0} where
   past-head d z m q t h i =
       elim (List·Memᴰ·cases-cons i) [ inl p ↦ (let w : q ≡ d = cc in absurd (omega arith)) | inr j ↦ j ]
 
-  pub same-items : (b : ℕ) (l m : List (ListItem R)) → Ascending b l → Ascending b m → Into l m → Into m l → l ≡ m
+  pub same-items : (b : ℕ) (l m : List (ListItem R)) → AscendingFrom b l → AscendingFrom b m → Into l m → Into m l → l ≡ m
   same-items b [] [] g k f h = refl
   same-items b [] (itemWith a r ∷ m) g k f h = elim (h a r (List·Memᴰ·head refl)) [ ]
   same-items b (itemWith a r ∷ l) [] g k f h = elim (f a r (List·Memᴰ·head refl)) [ ]
   same-items b (itemWith a r ∷ l) (itemWith c s ∷ m) g k f h =
       go (List·Memᴰ·cases-cons (f a r (List·Memᴰ·head refl))) (List·Memᴰ·cases-cons (h c s (List·Memᴰ·head refl)))
-      (λ e u v. same-items a l m (g .1) (subst (λ (n : ℕ). Ascending n m) (sym e) (k .1)) u v)
+      (λ e u v. same-items a l m (g .1) (subst (λ (n : ℕ). AscendingFrom n m) (sym e) (k .1)) u v)
     where
       go : (itemWith a r ≡ itemWith c s) ⊎ OnList a r m → (itemWith c s ≡ itemWith a r) ⊎ OnList c s l
           → (a ≡ c → Into l m → Into m l → l ≡ m) → _≡_ {A = List (ListItem R)} (itemWith a r ∷ l) (itemWith c s ∷ m)

@@ -9,7 +9,7 @@ use Rattle.paper.specs.Strings.{Dig, Memo, u1, v1, u2, ei, Str, digestOf, memor
 use Rattle.rings.specs.Trees.{Tree}
 use Rattle.rings.specs.Lists.{ListItem}
 use Rattle.rings.specs.Changes.{Step}
-use Rattle.rings.specs.Meanings.{Within, RecordKnown, StandsFor, Means, Fault}
+use Rattle.rings.specs.Meanings.{Within, RecordKnown, StandsFor, MemoMeans, Fault}
 use Rattle.rings.proofs.Nodes.{_>>=_, same-string, tree-more}
 use Rattle.rings.proofs.Align.{path-more, paths-more}
 use Rattle.rings.proofs.Items.{all-more}
@@ -25,7 +25,7 @@ module _ (D : Str → Dig) where
         permuted = g .permuted;
       }
 
-  pub means-more : {F G : List Str} (m : Memo) (c : List Step) → Within F G → Means D F m c → Means D G m c
+  pub means-more : {F G : List Str} (m : Memo) (c : List Step) → Within F G → MemoMeans D F m c → MemoMeans D G m c
   means-more (u1 x y x′ y′) c s m =
       record {
         path = m .path;

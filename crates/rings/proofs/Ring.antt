@@ -6,14 +6,14 @@ use Prim.Native.Nat.{ℕ, _+_, _≤_, _<_}
 use native.Mathlib.Omega.{arith}
 use Rattle.paper.specs.Strings.{Dig}
 use Rattle.rings.specs.Trees.{TreeLeaf, points, one, count}
-use Rattle.rings.specs.Lists.{ListItem, itemWith, Ascending, OnList, Unlisted, chainOf, ring}
+use Rattle.rings.specs.Lists.{ListItem, itemWith, AscendingFrom, OnList, Unlisted, chainOf, ring}
 use Rattle.rings.proofs.Counting.{count-nil, count-cons, count-cases, count-single}
 use Rattle.rings.proofs.Gaps.{Gap, between, beyond, before}
 use Rattle.rings.proofs.Items.{unlisted-below}
 
 module _ {R : Type 0} (h : R → Dig) where
   -- where it can stand: not below the first number, and it leads up or to the end z
-  pub bounds : (A B : ℕ) (w : Dig) (a : ℕ) (r : R) (l : List (ListItem R)) (z : ℕ) → Ascending a l
+  pub bounds : (A B : ℕ) (w : Dig) (a : ℕ) (r : R) (l : List (ListItem R)) (z : ℕ) → AscendingFrom a l
       → 0 < count (points A B w) (chainOf h a r l z) → (a ≤ A) × ((A < B) ⊎ (B ≡ z))
   bounds A B w a r [] z g m =
       let e = count-single _ _ m in
@@ -44,7 +44,7 @@ module _ {R : Type 0} (h : R → Dig) where
   leaf-item A B w (itemWith a r ∷ l) m = held A B w a r l a m
 
   -- nothing is listed in its gap
-  pub unlisted-in : (q A B : ℕ) (w : Dig) (a : ℕ) (r : R) (l : List (ListItem R)) (z : ℕ) → z ≤ a → Ascending a l → Gap A B q
+  pub unlisted-in : (q A B : ℕ) (w : Dig) (a : ℕ) (r : R) (l : List (ListItem R)) (z : ℕ) → z ≤ a → AscendingFrom a l → Gap A B q
       → 0 < count (points A B w) (chainOf h a r l z) → Unlisted q (itemWith a r ∷ l)
   unlisted-in q A B w a r [] z hz g k m =
       let e = count-single _ _ m in
@@ -76,13 +76,13 @@ module _ {R : Type 0} (h : R → Dig) where
       later (before u v t) p (inl x) = absurd (omega arith)
       later (before u v t) p (inr x) = omega (arith, g .0)
 
-  pub gap-free : (q A B : ℕ) (w : Dig) (ls : List (ListItem R)) → Ascending 0 ls → Gap A B q → 0 < count (points A B w) (ring h ls)
+  pub gap-free : (q A B : ℕ) (w : Dig) (ls : List (ListItem R)) → AscendingFrom 0 ls → Gap A B q → 0 < count (points A B w) (ring h ls)
       → Unlisted q ls
   gap-free q A B w [] g k m = tt
   gap-free q A B w (itemWith a r ∷ l) g k m = unlisted-in q A B w a r l a (omega arith) (g .1) k m
 
   -- another number for the last leaf to lead to
-  pub rewrap : (A : ℕ) (w : Dig) (a : ℕ) (r : R) (l : List (ListItem R)) (z z′ : ℕ) → z ≤ a → Ascending a l
+  pub rewrap : (A : ℕ) (w : Dig) (a : ℕ) (r : R) (l : List (ListItem R)) (z z′ : ℕ) → z ≤ a → AscendingFrom a l
       → 0 < count (points A z w) (chainOf h a r l z) → (x : TreeLeaf)
       → count x (chainOf h a r l z) + one x (points A z′ w) ≡ count x (chainOf h a r l z′) + one x (points A z w)
   rewrap A w a r [] z z′ hz g m x =

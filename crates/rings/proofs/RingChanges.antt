@@ -11,7 +11,7 @@ use lib.Dec.{eqb, ltb}
 use Rattle.seqs.specs.Choose.{pick}
 use Rattle.paper.specs.Strings.{Dig}
 use Rattle.rings.specs.Trees.{TreeLeaf, points, one, count}
-use Rattle.rings.specs.Lists.{ListItem, itemWith, Ascending, Unlisted, insert, remove, putRecord, chainOf, ring}
+use Rattle.rings.specs.Lists.{ListItem, itemWith, AscendingFrom, Unlisted, insert, remove, putRecord, chainOf, ring}
 use Rattle.rings.proofs.Counting.{count-nil, count-cons, count-cases, count-single}
 use Rattle.rings.proofs.Gaps.{Gap, between, beyond, before}
 use Rattle.rings.proofs.Ring.{bounds, unlisted-in, rewrap}
@@ -27,7 +27,7 @@ Rehash A B w w′ x L M = count x L + one x (points A B w) ≡ count x M + one x
 module _ {R : Type 0} (h : R → Dig) where
   -- ── removing an item: its leaf goes, and the leaf before it leads on ──
 
-  remove-chain : (q A B : ℕ) (w v : Dig) (a : ℕ) (r : R) (l : List (ListItem R)) (z : ℕ) → z ≤ a → Ascending a l → a < q
+  remove-chain : (q A B : ℕ) (w v : Dig) (a : ℕ) (r : R) (l : List (ListItem R)) (z : ℕ) → z ≤ a → AscendingFrom a l → a < q
       → 0 < count (points A q w) (chainOf h a r l z) → 0 < count (points q B v) (chainOf h a r l z) → (x : TreeLeaf)
       → Bypass q A B w v x (chainOf h a r l z) (chainOf h a r (remove q l) z)
   unfolding remove
@@ -39,7 +39,7 @@ module _ {R : Type 0} (h : R → Dig) where
       go (eqb q b) refl (count-cases _ _ _ m) (count-cases _ _ _ m′)
       (λ u t t′. remove-chain q A B w v b s l z (omega (arith, g .0)) (g .1) u t t′ x)
     where
-      last : (l : List (ListItem R)) → Ascending b l → q ≡ b → 0 < count (points q B v) (chainOf h b s l z)
+      last : (l : List (ListItem R)) → AscendingFrom b l → q ≡ b → 0 < count (points q B v) (chainOf h b s l z)
           → count x (chainOf h b s l z) + one x (points a B (h r)) ≡ count x (chainOf h a r l z) + one x (points q B v)
       last [] k p t =
           let e = count-single _ _ t in
@@ -72,13 +72,13 @@ module _ {R : Type 0} (h : R → Dig) where
           simp count-cons
           (omega (arith, f (omega (arith, eqb-false q b i, (bounds h q B v b s l z (g .1) t′) .0)) t t′))
 
-  pub remove-ring : (q A B : ℕ) (w v : Dig) (ls : List (ListItem R)) → Ascending 0 ls → A ≢ q → 0 < count (points A q w) (ring h ls)
+  pub remove-ring : (q A B : ℕ) (w v : Dig) (ls : List (ListItem R)) → AscendingFrom 0 ls → A ≢ q → 0 < count (points A q w) (ring h ls)
       → 0 < count (points q B v) (ring h ls) → (x : TreeLeaf) → Bypass q A B w v x (ring h ls) (ring h (remove q ls))
   unfolding remove
   remove-ring q A B w v [] g n m m′ x = absurd (omega (arith, count-nil (points A q w)))
   remove-ring q A B w v (itemWith a r ∷ l) g n m m′ x = go (eqb q a) refl
     where
-      first : (l : List (ListItem R)) → Ascending a l → q ≡ a → 0 < count (points A q w) (chainOf h a r l a)
+      first : (l : List (ListItem R)) → AscendingFrom a l → q ≡ a → 0 < count (points A q w) (chainOf h a r l a)
           → 0 < count (points q B v) (chainOf h a r l a) → Bypass q A B w v x (chainOf h a r l a) (ring h l)
       first [] k p t t′ = let e = count-single _ _ t in absurd (n (cc))
       first (itemWith b s ∷ l′) k p t t′ = on (count-cases _ _ _ t) (count-cases _ _ _ t′)
@@ -103,7 +103,7 @@ module _ {R : Type 0} (h : R → Dig) where
 
   -- ── putting a record: one leaf has another hash ──
 
-  put-head : (A B : ℕ) (w : Dig) (r : R) (a : ℕ) (s : R) (l : List (ListItem R)) (z : ℕ) → A ≡ a → Ascending a l
+  put-head : (A B : ℕ) (w : Dig) (r : R) (a : ℕ) (s : R) (l : List (ListItem R)) (z : ℕ) → A ≡ a → AscendingFrom a l
       → 0 < count (points A B w) (chainOf h a s l z) → (x : TreeLeaf)
       → Rehash A B w (h r) x (chainOf h a r l z) (chainOf h a s l z)
   put-head A B w r a s [] z p g m x =
@@ -118,7 +118,7 @@ module _ {R : Type 0} (h : R → Dig) where
         | inr u ↦ absurd (omega (arith, g .0, (bounds h A B w b t l z (g .1) u) .0))
       ]
 
-  put-tail : (A B : ℕ) (w : Dig) (r : R) (a : ℕ) (s : R) (l : List (ListItem R)) (z : ℕ) → A ≢ a → Ascending a l
+  put-tail : (A B : ℕ) (w : Dig) (r : R) (a : ℕ) (s : R) (l : List (ListItem R)) (z : ℕ) → A ≢ a → AscendingFrom a l
       → 0 < count (points A B w) (chainOf h a s l z) → (x : TreeLeaf)
       → Rehash A B w (h r) x (chainOf h a s (putRecord A r l) z) (chainOf h a s l z)
   unfolding putRecord
@@ -135,7 +135,7 @@ module _ {R : Type 0} (h : R → Dig) where
       go true i (inr u) f = simp count-cons (omega (arith, put-head A B w r b t l z (eqb-true A b i) (g .1) u x))
       go false i (inr u) f = simp count-cons (omega (arith, f (eqb-false A b i) u))
 
-  pub put-ring : (A B : ℕ) (w : Dig) (r : R) (ls : List (ListItem R)) → Ascending 0 ls → 0 < count (points A B w) (ring h ls)
+  pub put-ring : (A B : ℕ) (w : Dig) (r : R) (ls : List (ListItem R)) → AscendingFrom 0 ls → 0 < count (points A B w) (ring h ls)
       → (x : TreeLeaf) → Rehash A B w (h r) x (ring h (putRecord A r ls)) (ring h ls)
   unfolding putRecord
   put-ring A B w r [] g m x = absurd (omega (arith, count-nil (points A B w)))
@@ -148,7 +148,7 @@ module _ {R : Type 0} (h : R → Dig) where
 
   -- ── inserting an item: the leaf in whose gap it lies leads to it, and it leads on ──
 
-  insert-chain : (q A B : ℕ) (w : Dig) (new : R) (a : ℕ) (r : R) (l : List (ListItem R)) (z : ℕ) → z ≤ a → Ascending a l → a < q
+  insert-chain : (q A B : ℕ) (w : Dig) (new : R) (a : ℕ) (r : R) (l : List (ListItem R)) (z : ℕ) → z ≤ a → AscendingFrom a l → a < q
       → Unlisted q l → Gap A B q → 0 < count (points A B w) (chainOf h a r l z) → (x : TreeLeaf)
       → Bypass q A B w (h new) x (chainOf h a r (insert q new l) z) (chainOf h a r l z)
   unfolding insert
@@ -187,7 +187,7 @@ module _ {R : Type 0} (h : R → Dig) where
       go false u (inl e) i = absurd (omega (arith, ltb-false q b u, up (cc) (cc) k))
       go false u (inr t) i = simp count-cons (omega (arith, i (omega (arith, ltb-false q b u, f .0)) t))
 
-  pub insert-ring : (q A B : ℕ) (w : Dig) (new : R) (ls : List (ListItem R)) → Ascending 0 ls → Gap A B q
+  pub insert-ring : (q A B : ℕ) (w : Dig) (new : R) (ls : List (ListItem R)) → AscendingFrom 0 ls → Gap A B q
       → 0 < count (points A B w) (ring h ls) → (x : TreeLeaf) → Bypass q A B w (h new) x (ring h (insert q new ls)) (ring h ls)
   unfolding insert
   insert-ring q A B w new [] g k m x = absurd (omega (arith, count-nil (points A B w)))

@@ -8,9 +8,9 @@ use native.Mathlib.Omega.{arith}
 use Rattle.paper.specs.declared.Record.{Record}
 use Rattle.paper.specs.Strings.{Dig, nought, emptyRecord, Str, leaf}
 use Rattle.rings.specs.Trees.{TreeLeaf, points, Tree, empty, tip, one, count}
-use Rattle.rings.specs.Lists.{ListItem, itemWith, Ascending, OnList, insert, chainOf, ring}
+use Rattle.rings.specs.Lists.{ListItem, itemWith, AscendingFrom, OnList, insert, chainOf, ring}
 use Rattle.rings.specs.Changes.{Step, insertion, removal, doSteps, reversed}
-use Rattle.rings.specs.Meanings.{_∈_, Within, AllRecords, MeansU2, hashOfTree, TreeIn, hashRecord, RecordKnown, known-empty, Fault, Leads, MeansEI}
+use Rattle.rings.specs.Meanings.{_∈_, Within, AllRecords, MeansU2, hashOfTree, TreeIn, hashRecord, RecordKnown, known-empty, Fault, StepsLead, MeansEI}
 use Rattle.rings.proofs.Counting.{one-self, count-nil, count-cons, count-only, count-single}
 use Rattle.rings.proofs.Nodes.{_>>=_, no-leaf, only-leaf}
 use Rattle.rings.proofs.Align.{Two, align-two, paths-more}
@@ -60,7 +60,7 @@ module _ (D : Str → Dig) where
 
   -- ── 06 swap ──
 
-  swap-leads : {F : List Str} {x₁ x₂ y y′ : Dig} → TwoPlaces F x₁ x₂ y x₂ x₁ y′ → Leads D F y y′ []
+  swap-leads : {F : List Str} {x₁ x₂ y y′ : Dig} → TwoPlaces F x₁ x₂ y x₂ x₁ y′ → StepsLead D F y y′ []
   swap-leads f G s T ls e g = do
     t ← f G s T e (g .tree-in)
     let u = t .fill (t .part₂) (t .part₁) (t .hash₂) (t .hash₁) (t .in₂) (t .in₁)
@@ -83,9 +83,9 @@ module _ (D : Str → Dig) where
 
   pub turn : {F : List Str} {y y′ : Dig} {c : List Step} → MeansEI D F y y′ c → MeansEI D F y′ y (reversed c)
   turn {F} {y} {y′} {c} u =
-      record { forth = u .back; back = subst (Leads D F y y′) (sym (reversed-reversed c)) (u .forth) }
+      record { forth = u .back; back = subst (StepsLead D F y y′) (sym (reversed-reversed c)) (u .forth) }
 
-  one-then-other : {F : List Str} {x y z : Dig} (c d : List Step) → Leads D F x y c → Leads D F y z d → Leads D F x z (c ++ d)
+  one-then-other : {F : List Str} {x y z : Dig} (c d : List Step) → StepsLead D F x y c → StepsLead D F y z d → StepsLead D F x z (c ++ d)
   one-then-other c d f k G s T ls e g = do
     m ← f G s T ls e g
     n ← k G s (m .tree) (doSteps c ls) (m .tree-hash) (m .stands)
@@ -101,7 +101,7 @@ module _ (D : Str → Dig) where
       record {
         forth = one-then-other c d (u .forth) (v .forth);
         back =
-            subst (Leads D F z x) (sym (reversed-append c d)) (one-then-other (reversed d) (reversed c) (v .back) (u .back));
+            subst (StepsLead D F z x) (sym (reversed-append c d)) (one-then-other (reversed d) (reversed c) (v .back) (u .back));
       }
 
   -- ── 07 first ──
@@ -114,7 +114,7 @@ module _ (D : Str → Dig) where
       absurd (omega (arith, f (points a (i .0) (hashRecord D r)), i .1))
 
   -- a ring of one leaf, of hash 0, is that of one empty item
-  one-item : {F : List Str} (A : ℕ) (ls : List (ListItem Record)) → Ascending 0 ls → AllRecords (RecordKnown D F) ls
+  one-item : {F : List Str} (A : ℕ) (ls : List (ListItem Record)) → AscendingFrom 0 ls → AllRecords (RecordKnown D F) ls
       → ((x : TreeLeaf) → count x (ringOf ls) ≡ count x (points A A nought ∷ [])) → Fault D F ⊎ (ls ≡ itemWith A emptyRecord ∷ [])
   one-item A [] g k f =
       let x = points A A nought in
@@ -134,7 +134,7 @@ module _ (D : Str → Dig) where
       let p : a ≡ b = cc in
       absurd (omega (arith, g .1 .0))
 
-  first-forth : {F : List Str} (A : ℕ) → 0 < A → leaf A A nought ∈ F → Leads D F nought (D (leaf A A nought)) (insertion A ∷ [])
+  first-forth : {F : List Str} (A : ℕ) → 0 < A → leaf A A nought ∈ F → StepsLead D F nought (D (leaf A A nought)) (insertion A ∷ [])
   unfolding insert
   first-forth A h m G s T ls e g = do
     n ← no-leaf D T e (g .tree-in)
@@ -151,7 +151,7 @@ module _ (D : Str → Dig) where
       };
     }))
 
-  first-back : {F : List Str} (A : ℕ) → 0 < A → leaf A A nought ∈ F → Leads D F (D (leaf A A nought)) nought (removal A ∷ [])
+  first-back : {F : List Str} (A : ℕ) → 0 < A → leaf A A nought ∈ F → StepsLead D F (D (leaf A A nought)) nought (removal A ∷ [])
   first-back A h m G s T ls e g = do
     n ← only-leaf D T A A nought (s (leaf A A nought) m) e (g .tree-in)
     p ← one-item A ls (g .ascending) (g .known) (λ x. sym (g .permuted x) ∙ ap (count x) n)
@@ -175,7 +175,7 @@ module _ (D : Str → Dig) where
     pub without : leaf A B w ∈ F
 
   place-forth : {F : List Str} {y y′ : Dig} (A q B : ℕ) (w : Dig) → Placed F A q B w
-      → TwoPlaces F (D (leaf A q w)) (D (leaf q B nought)) y (D (leaf A B w)) nought y′ → Leads D F y y′ (removal q ∷ [])
+      → TwoPlaces F (D (leaf A q w)) (D (leaf q B nought)) y (D (leaf A B w)) nought y′ → StepsLead D F y y′ (removal q ∷ [])
   place-forth A q B w k f G s T ls e g = do
     t ← f G s T e (g .tree-in)
     a ← only-leaf D (t .part₁) A q w (s _ (k .to-it)) (t .hash₁) (t .in₁)
@@ -204,7 +204,7 @@ module _ (D : Str → Dig) where
     })
 
   place-back : {F : List Str} {y y′ : Dig} (A q B : ℕ) (w : Dig) → Placed F A q B w
-      → TwoPlaces F (D (leaf A B w)) nought y′ (D (leaf A q w)) (D (leaf q B nought)) y → Leads D F y′ y (insertion q ∷ [])
+      → TwoPlaces F (D (leaf A B w)) nought y′ (D (leaf A q w)) (D (leaf q B nought)) y → StepsLead D F y′ y (insertion q ∷ [])
   place-back A q B w k f G s T ls e g = do
     t ← f G s T e (g .tree-in)
     a ← only-leaf D (t .part₁) A B w (s _ (k .without)) (t .hash₁) (t .in₁)

@@ -5,7 +5,7 @@ use mathlib.Core.Logic.{_⊎_, inl, inr}
 use native.Mathlib.Omega.{arith}
 use Rattle.paper.specs.declared.Record.{Record}
 use Rattle.paper.specs.Strings.{Dig, Str}
-use Rattle.rings.specs.Trees.{points, Tree, empty, tip, branch, leaves, Permuted}
+use Rattle.rings.specs.Trees.{points, Tree, empty, tip, branch, leaves, SameLeaves}
 use Rattle.rings.specs.Lists.{ListItem, itemWith, ring}
 use Rattle.rings.specs.Meanings.{AllRecords, hashOfTree, TreeIn, hashRecord, RecordKnown, StandsFor, Fault}
 use Rattle.rings.proofs.Counting.{count-append}
@@ -17,7 +17,7 @@ use Rattle.rings.proofs.ListKinds.{leaf-record}
 
 module _ (D : Str → Dig) where
   same-leaves : {F : List Str} (T U : Tree) → hashOfTree D T ≡ hashOfTree D U → TreeIn D F T → TreeIn D F U
-      → Fault D F ⊎ Permuted (leaves T) (leaves U)
+      → Fault D F ⊎ SameLeaves (leaves T) (leaves U)
   same-leaves empty U e i j = do
     n ← no-leaf D U (sym e) j
     inr (λ x. rw n refl)
@@ -32,7 +32,7 @@ module _ (D : Str → Dig) where
 
   -- each item of the part l of ls is listed in m, where their rings are the same
   into : {F : List Str} (ls l m : List (ListItem Record)) → AllRecords (RecordKnown D F) ls → AllRecords (RecordKnown D F) m
-      → Permuted (ring (hashRecord D) ls) (ring (hashRecord D) m) → Into l ls → Fault D F ⊎ Into l m
+      → SameLeaves (ring (hashRecord D) ls) (ring (hashRecord D) m) → Into l ls → Fault D F ⊎ Into l m
   into ls [] m k k′ f s = inr (λ a r i. elim i [ ])
   into {F} ls (itemWith a r ∷ l) m k k′ f s = do
     let here = s a r (List·Memᴰ·head refl)
@@ -46,7 +46,7 @@ module _ (D : Str → Dig) where
       → StandsFor D F U m → Fault D F ⊎ (l ≡ m)
   same-list T U l m e g h = do
     p ← same-leaves T U e (g .tree-in) (h .tree-in)
-    let c : Permuted (ring (hashRecord D) l) (ring (hashRecord D) m) = λ x. omega (arith, g .permuted x, h .permuted x, p x)
+    let c : SameLeaves (ring (hashRecord D) l) (ring (hashRecord D) m) = λ x. omega (arith, g .permuted x, h .permuted x, p x)
     f ← into l l m (g .known) (h .known) c (λ a r i. i)
     k ← into m m l (h .known) (g .known) (λ x. sym (c x)) (λ a r i. i)
     inr (same-items 0 l m (g .ascending) (h .ascending) f k)

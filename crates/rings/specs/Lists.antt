@@ -14,9 +14,9 @@ pub data ListItem (R : Type 0) : Type 0 where
 
 module _ {R : Type 0} where
   -- "one ascending ring of distinct item numbers": each number is above the one before, the first above b
-  abbrev pub Ascending : (b : ℕ) → List (ListItem R) → Type 0
-  Ascending b [] = Unit {0}
-  Ascending b (itemWith a r ∷ l) = (b < a) × Ascending a l
+  abbrev pub AscendingFrom : (b : ℕ) → List (ListItem R) → Type 0
+  AscendingFrom b [] = Unit {0}
+  AscendingFrom b (itemWith a r ∷ l) = (b < a) × AscendingFrom a l
 
   -- item A is listed, with the record r; A is not listed
   abbrev pub OnList : (A : ℕ) → R → List (ListItem R) → Type 0

@@ -8,8 +8,8 @@ use Rattle.seqs.specs.Choose.{pick}
 use Rattle.seqs.specs.Bytes.{same}
 use Rattle.paper.specs.declared.Record.{Record}
 use Rattle.paper.specs.Strings.{Dig, nought, emptyRecord, blank, Memo, u1, v1, u2, ei, Str, leaf, node, entry}
-use Rattle.rings.specs.Trees.{points, Tree, empty, tip, branch, leaves, Permuted}
-use Rattle.rings.specs.Lists.{ListItem, itemWith, Ascending, ring}
+use Rattle.rings.specs.Trees.{points, Tree, empty, tip, branch, leaves, SameLeaves}
+use Rattle.rings.specs.Lists.{ListItem, itemWith, AscendingFrom, ring}
 use Rattle.rings.specs.Changes.{Step, doSteps, reversed, LegalSteps}
 
 -- ── strings formed ──
@@ -116,9 +116,9 @@ module _ (D : Str → Dig) where
   -- the tree's strings and those of the records are formed, and the tree's leaves are the ring of the list in some order
   pub record StandsFor (F : List Str) (T : Tree) (ls : List (ListItem Record)) : Type 0 where
     pub tree-in : TreeIn F T
-    pub ascending : Ascending 0 ls
+    pub ascending : AscendingFrom 0 ls
     pub known : AllRecords (RecordKnown F) ls
-    pub permuted : Permuted (leaves T) (ring hashRecord ls)
+    pub permuted : SameLeaves (leaves T) (ring hashRecord ls)
 
   -- ── EI ──
 
@@ -128,7 +128,7 @@ module _ (D : Str → Dig) where
     vanishes : (s : Str) → s ∈ F → D s ≡ nought → Fault F
 
   -- a tree of hash y that stands for the list after the steps c, each of which was legal
-  pub record Moved (F : List Str) (y : Dig) (c : List Step) (ls : List (ListItem Record)) : Type 0 where
+  pub record TreeMoved (F : List Str) (y : Dig) (c : List Step) (ls : List (ListItem Record)) : Type 0 where
     pub tree : Tree
     pub tree-hash : hashOfTree tree ≡ y
     pub legal : LegalSteps c ls
@@ -136,20 +136,20 @@ module _ (D : Str → Dig) where
 
   -- the steps c lead from y to y': wherever a tree of hash y stands for a list, the list after them has a tree of hash y', or a
   -- fault can be shown
-  abbrev pub Leads : List Str → (y y′ : Dig) → List Step → Type 0
-  Leads F y y′ c =
+  abbrev pub StepsLead : List Str → (y y′ : Dig) → List Step → Type 0
+  StepsLead F y y′ c =
       (G : List Str) → Within F G → (T : Tree) (ls : List (ListItem Record)) → hashOfTree T ≡ y → StandsFor G T ls
-      → Fault G ⊎ Moved G y′ c ls
+      → Fault G ⊎ TreeMoved G y′ c ls
 
   -- "EI: the two roots stand for equally good rings": the steps c lead from any tree of hash y to one of hash y', and back
   pub record MeansEI (F : List Str) (y y′ : Dig) (c : List Step) : Type 0 where
-    pub forth : Leads F y y′ c
-    pub back : Leads F y′ y (reversed c)
+    pub forth : StepsLead F y y′ c
+    pub back : StepsLead F y′ y (reversed c)
 
   -- ── what a memorandum says is so, an EI standing for the steps c ──
 
-  abbrev pub Means : List Str → Memo → (c : List Step) → Type 0
-  Means F (u1 x y x′ y′) c = MeansU1 F x y x′ y′
-  Means F (v1 x y) c = MeansV1 F x y
-  Means F (u2 x1 x2 y x1′ x2′ y′) c = MeansU2 F x1 x2 y x1′ x2′ y′
-  Means F (ei y y′) c = MeansEI F y y′ c
+  abbrev pub MemoMeans : List Str → Memo → (c : List Step) → Type 0
+  MemoMeans F (u1 x y x′ y′) c = MeansU1 F x y x′ y′
+  MemoMeans F (v1 x y) c = MeansV1 F x y
+  MemoMeans F (u2 x1 x2 y x1′ x2′ y′) c = MeansU2 F x1 x2 y x1′ x2′ y′
+  MemoMeans F (ei y y′) c = MeansEI F y y′ c

@@ -47,5 +47,5 @@ count x [] = 0
 count x (y ∷ l) = one x y + count x l
 
 -- the same leaves in some order: each occurs equally often in both
-abbrev pub Permuted : List TreeLeaf → List TreeLeaf → Type 0
-Permuted l m = (x : TreeLeaf) → count x l ≡ count x m
+abbrev pub SameLeaves : List TreeLeaf → List TreeLeaf → Type 0
+SameLeaves l m = (x : TreeLeaf) → count x l ≡ count x m

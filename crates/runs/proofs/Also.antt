@@ -17,7 +17,7 @@ use Rattle.rings.proofs.Endings.{fault-shows}
 use Rattle.rings.proofs.InPaper.{same-list}
 use Rattle.runs.specs.Run.{Issue, stepsFor, isIssued, issuedBy, toldAt, after}
 use Rattle.runs.specs.Safety.{SafeOrEnded}
-use Rattle.runs.specs.Also.{onwards, NothingToShow, RootSettlesList, NoOtherWayOut, HonestReplayed, EarliestStays, MemorandaMean, AlsoFor, Also}
+use Rattle.runs.specs.Also.{onwards, NothingToShow, RootSettlesList, NoOtherWayOut, HonestReplayed, EarliestStays, MemorandaMean, AlsoFor, AlsoHolds}
 use Rattle.runs.proofs.Formed.{well-at, well-append}
 use Rattle.runs.proofs.Sides.{side}
 use Rattle.runs.proofs.Runs.{run, stands-of, safety}
@@ -109,7 +109,7 @@ also-for D D32 =
       earliest-stays = earliest-stays D;
     }
 
-pub also : Also
+pub also : AlsoHolds
 also =
     record {
       at-sha256 = also-for sha256 sha256-length;

@@ -14,7 +14,7 @@ use Rattle.paper.specs.Requests.{Request}
 use Rattle.paper.specs.Refusals.{Check, noneFits, tried, needs, compared, carriedMemoranda, those, anyFails, formsAll, formedAt}
 use Rattle.paper.specs.Answers.{answer}
 use Rattle.paper.proofs.Verdicts.{the-one}
-use Rattle.rings.specs.Meanings.{Within, Fault, Means}
+use Rattle.rings.specs.Meanings.{Within, Fault, MemoMeans}
 use Rattle.rings.proofs.Nodes.{_>>=_, instead}
 use Rattle.runs.specs.Run.{World, stepsFor, isIssued}
 use Rattle.runs.specs.Also.{AllBacked}
@@ -83,7 +83,7 @@ module _ (D : List ℕ → Dig) (w : World) where
 
     module _ (b : AllBacked D G (w .book)) where
       abbrev pub Meant : Memo → Dig → Type 0
-      Meant t m = Means (digestOf D) G t (stepsFor m (w .book))
+      Meant t m = MemoMeans (digestOf D) G t (stepsFor m (w .book))
 
       -- one whose strings are formed
       taken : (q : Request) (t : Memo) (m : Dig) → List·Memᴰ m (carriedMemoranda D s q) → Within (memorandumForms D t key) G

@@ -12,7 +12,7 @@ use Rattle.paper.specs.Refusals.{carriedMemoranda}
 use Rattle.rings.specs.Meanings.{Within}
 use Rattle.runs.specs.Run.{LineTurn, last, ofRuns, Issue, isIssued, World, toldAt, next, after}
 use Rattle.runs.specs.Endings.{Forged, Ending, byCollision, byZeroDigest, byForgery, earlier}
-use Rattle.runs.specs.Liveness.{latestFirst, AllIssued, Honest}
+use Rattle.runs.specs.Liveness.{latestFirst, AllIssued, HonestTurns}
 use Rattle.runs.specs.Also.{onwards, Shown, AnyForged, EndingIs, NotEndedBeforeOpen, NotEndedByOpening, HonestEndsNothing}
 use Rattle.runs.proofs.Lines.{asked}
 use Rattle.runs.proofs.Sides.{at-shut, stays-open, side}
@@ -80,7 +80,7 @@ module _ (D : List ℕ → Dig) where
   stays-formed k [] ts s i = i
   stays-formed k (t ∷ us) ts s i = stays-formed k us (t ∷ ts) s (Memᴰ·append-right (toldAt D (after D k ts) t .formed) i)
 
-  honest-on : (k : Dig) (us ts : List LineTurn) (v : World) → Alike v (after D k ts) → Honest D v us → Ending D k (onwards us ts)
+  honest-on : (k : Dig) (us ts : List LineTurn) (v : World) → Alike v (after D k ts) → HonestTurns D v us → Ending D k (onwards us ts)
       → Ending D k ts ⊎ Shown D (after D k (onwards us ts) .formed)
   honest-on k [] ts v a h e = inl e
   honest-on k (t ∷ us) ts v a h e =

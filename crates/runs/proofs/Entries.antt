@@ -11,7 +11,7 @@ use lib.Seq.{drop-at}
 use Rattle.seqs.specs.Choose.{both-true, _and_}
 use Rattle.hex.specs.Hex.{bytesOf}
 use Rattle.paper.specs.Strings.{Dig, Memo, memorandum, foldUp}
-use Rattle.paper.specs.Requests.{Request, sidesIn, siblingsIn, Kind, kinds, kindOf, known, rowOf, part, requestOf}
+use Rattle.paper.specs.Requests.{Request, sidesIn, siblingsIn, KindRow, kinds, kindOf, known, rowOf, part, requestOf}
 use Rattle.paper.specs.Answers.{ListChange, Effect, issues, answer}
 use Rattle.paper.specs.Module.{Told}
 use Rattle.paper.proofs.Memoranda.{memorandum-32}
@@ -32,11 +32,11 @@ module _ (D : List ℕ → Dig) where
 
   module _ (w : World) where
     -- rows of the table from kind n on: they issue up to 0a
-    abbrev RowsFrom : ℕ → List Kind → Type 0
+    abbrev RowsFrom : ℕ → List KindRow → Type 0
     RowsFrom n [] = Unit {0}
     RowsFrom n (k ∷ ks) = ((p : ℕ → List ℕ) → Issues w (leb n 0x0a) (k .reads p)) × RowsFrom (suc n) ks
 
-    row-at : (n : ℕ) (ks : List Kind) (i : ℕ) (d : Kind) → i < length ks → RowsFrom n ks
+    row-at : (n : ℕ) (ks : List KindRow) (i : ℕ) (d : KindRow) → i < length ks → RowsFrom n ks
         → (p : ℕ → List ℕ) → Issues w (leb (n + i) 0x0a) (getD ks i d .reads p)
     row-at n [] i d h r p = absurd (omega arith)
     row-at n (k ∷ ks) zero d h r p =

@@ -17,7 +17,7 @@ use Rattle.rings.specs.Changes.{Step}
 use Rattle.runs.specs.Run.{Items, last, Issue, stepsFor, isIssued, meaning, World, toldAt, landed, next}
 use Rattle.runs.specs.Frames.{partsOf, frameOf, turnOf, turnsOf}
 use Rattle.runs.specs.Honest.{note}
-use Rattle.runs.specs.Liveness.{AllIssued, fed, Honest}
+use Rattle.runs.specs.Liveness.{AllIssued, fed, HonestTurns}
 use Rattle.runs.proofs.Accepted.{NoneFails, formedAll, all-pass, judge-passed}
 use Rattle.paper.proofs.Early.{late}
 use Rattle.runs.proofs.Lines.{read-is}
@@ -33,7 +33,7 @@ module _ (D : List ℕ → Dig) where
   run w qs = fed D w (turnsOf qs)
 
   abbrev Fair : World → List Request → Type 0
-  Fair w qs = Honest D w (turnsOf qs)
+  Fair w qs = HonestTurns D w (turnsOf qs)
 
   -- honest lines that lead from one world to another
   pub record Leads (w : World) (qs : List Request) (v : World) : Type 0 where

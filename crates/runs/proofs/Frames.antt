@@ -14,7 +14,7 @@ use Rattle.hex.specs.Hex.{bytesOf, digitsOf}
 use Rattle.hex.proofs.Laws.{bytes-of-digits, digits-all, digits-length}
 use Rattle.paper.specs.Strings.{Dig}
 use Rattle.paper.specs.Requests as Q
-use Rattle.paper.specs.Requests.{Request, Carried, aDigest, sidesIn, Kind, kinds, kindOf, known, rowOf, takesAll, fits, requestOf, mostSiblings}
+use Rattle.paper.specs.Requests.{Request, Carried, aDigest, sidesIn, KindRow, kinds, kindOf, known, rowOf, takesAll, fits, requestOf, mostSiblings}
 use Rattle.paper.specs.Refusals.{isHex, longestFrame, longestLine}
 use Rattle.runs.specs.Frames.{together, pathBytes, partsOf, frameOf}
 use Rattle.runs.specs.Sizes.{InEightBytes, ValuesFit, RecordFits}
@@ -60,7 +60,7 @@ by-row : (q : Request) → listed (partsOf q .kind) ≡ true → ShapedAll (rowO
 unfolding fits requestOf known kinds
 by-row q k h e =
     let kind = partsOf q .kind in
-    let row : Kind = rowOf kind in
+    let row : KindRow = rowOf kind in
     let ps = partsOf q .parts in
     let in-table = both-true (known kind) (ltb (most (row .carries)) longestFrame) k in
     let low = leb-true kind (length kinds) (both-true (leb 1 kind) (leb kind (length kinds)) (in-table .0) .1) in

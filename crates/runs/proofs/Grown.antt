@@ -9,7 +9,7 @@ use borrow.Author.Tests.{eqb-true}
 use Rattle.seqs.specs.Choose.{pick}
 use Rattle.paper.specs.declared.Record.{Record}
 use Rattle.paper.specs.Strings.{Dig, nought, emptyRecord, recordHash}
-use Rattle.rings.specs.Trees.{TreeLeaf, points, Tree, empty, tip, branch, leaves, one, count, Permuted}
+use Rattle.rings.specs.Trees.{TreeLeaf, points, Tree, empty, tip, branch, leaves, one, count, SameLeaves}
 use Rattle.rings.specs.Lists.{ListItem, itemWith, OnList, Unlisted, insert, remove, putRecord, ring}
 use Rattle.rings.proofs.Counting.{count-nil, count-append, count-only}
 use Rattle.rings.proofs.Gaps.{gap-holds}
@@ -63,7 +63,7 @@ module _ {D : List ℕ → Dig} {w : World} {T : Tree} (g : Ground D w T) where
   -- ── set, clear ──
 
   pub rewritten-holds : (A : ℕ) (r new : Record) → OnList A r (w .items)
-      → Permuted (leaves (treeRewritten D A new T)) (ring (recordHash D) (putRecord A new (w .items)))
+      → SameLeaves (leaves (treeRewritten D A new T)) (ring (recordHash D) (putRecord A new (w .items)))
   rewritten-holds A r new m v =
       let have = of-item g A r m in
       let t = spotted g (isOf A) have in
@@ -84,7 +84,7 @@ module _ {D : List ℕ → Dig} {w : World} {T : Tree} (g : Ground D w T) where
   -- ── swap ──
 
   pub swapped-holds : (A B : ℕ) → A ≢ B → IsListed A (w .items) → IsListed B (w .items)
-      → Permuted (leaves (treeSwapped D A B T)) (ring (recordHash D) (w .items))
+      → SameLeaves (leaves (treeSwapped D A B T)) (ring (recordHash D) (w .items))
   swapped-holds A B apart m n v =
       let x = found (isOf A) T in
       let z = found (isOf B) T in
@@ -95,7 +95,7 @@ module _ {D : List ℕ → Dig} {w : World} {T : Tree} (g : Ground D w T) where
   -- ── insert ──
 
   pub with-holds : (A : ℕ) → 0 < A → Unlisted A (w .items)
-      → Permuted (leaves (treeWith D A T (w .items))) (ring (recordHash D) (insert A emptyRecord (w .items)))
+      → SameLeaves (leaves (treeWith D A T (w .items))) (ring (recordHash D) (insert A emptyRecord (w .items)))
   unfolding insert
   with-holds A positive free v = by-items (w .items) refl
     where
@@ -136,7 +136,7 @@ module _ {D : List ℕ → Dig} {w : World} {T : Tree} (g : Ground D w T) where
   -- ── remove ──
 
   pub without-holds : (A : ℕ) → OnList A emptyRecord (w .items)
-      → Permuted (leaves (treeWithout D A T (w .items))) (ring (recordHash D) (remove A (w .items)))
+      → SameLeaves (leaves (treeWithout D A T (w .items))) (ring (recordHash D) (remove A (w .items)))
   without-holds A m v = by-items (w .items) refl
     where
       only : (a : ℕ) (r : Record) → w .items ≡ itemWith a r ∷ [] → (itemWith A emptyRecord ≡ itemWith a r) ⊎ OnList A emptyRecord []

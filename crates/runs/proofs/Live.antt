@@ -14,13 +14,13 @@ use Rattle.sha256.proofs.Digests.{sha256-length}
 use Rattle.paper.specs.declared.Registers.{Registers}
 use Rattle.paper.specs.Strings.{Dig, emptyRecord, recordHash}
 use Rattle.paper.specs.Refusals.{top, nextRecord, clearedRecord}
-use Rattle.rings.specs.Trees.{Tree, leaves, hashOf, Permuted}
-use Rattle.rings.specs.Lists.{Ascending, ring}
+use Rattle.rings.specs.Trees.{Tree, leaves, hashOf, SameLeaves}
+use Rattle.rings.specs.Lists.{AscendingFrom, ring}
 use Rattle.rings.proofs.Nodes.{_>>=_}
 use Rattle.rings.proofs.Items.{insert-ascending, remove-ascending, put-ascending}
 use Rattle.runs.specs.Run.{LineTurn, Items, World, after}
 use Rattle.runs.specs.Sizes.{ItemsFit}
-use Rattle.runs.specs.Wishes.{Wish, insertItem, removeItem, swapPlaces, setRecord, clearRecord, askAbout, Legal}
+use Rattle.runs.specs.Wishes.{Wish, insertItem, removeItem, swapPlaces, setRecord, clearRecord, askAbout, LegalWish}
 use Rattle.runs.specs.Outcomes.{itemsAfter, registersAfter, LeavesMoved}
 use Rattle.runs.specs.Frames.{turnsOf}
 use Rattle.runs.specs.Honest.{honestLines}
@@ -53,8 +53,8 @@ module _ (D : List ℕ → Dig) (D32 : (l : List ℕ) → length (D l) ≡ 32) (
         → (let U = treeAfter D s T (w .items) x in
         let l = itemsAfter s (w .items) x in
         let s′ = registersAfter s (hashOf D U) x in
-        Brings D w (honestLines D s T (w .items) x) s′ l n → hashOf D U ≡ s′ .root → s′ .counter .0 ≡ n → Ascending 0 l
-        → Permuted (leaves U) (ring (recordHash D) l) → ItemsFit l → LeavesMoved x T U
+        Brings D w (honestLines D s T (w .items) x) s′ l n → hashOf D U ≡ s′ .root → s′ .counter .0 ≡ n → AscendingFrom 0 l
+        → SameLeaves (leaves U) (ring (recordHash D) l) → ItemsFit l → LeavesMoved x T U
         → AnsweredTruly D x (w .items) (lastReply D w (turnsOf (honestLines D s T (w .items) x))) → GrantedBy x)
     grants x n b root counter up holds fits moved answered us spaced =
         let U = treeAfter D s T (w .items) x in
@@ -70,8 +70,8 @@ module _ (D : List ℕ → Dig) (D32 : (l : List ℕ) → length (D l) ≡ 32) (
             stands = record {
               tree = U;
               root = root ∙ sym (ap (λ (r : Registers). r .root) registers-are);
-              ascending = subst (Ascending 0) (sym items-are) up;
-              holds = subst (λ (l : Items). Permuted (leaves U) (ring (recordHash D) l)) (sym items-are) holds;
+              ascending = subst (AscendingFrom 0) (sym items-are) up;
+              holds = subst (λ (l : Items). SameLeaves (leaves U) (ring (recordHash D) l)) (sym items-are) holds;
               fits = subst ItemsFit (sym items-are) fits;
               counter = ap (λ (r : Registers). r .counter .0) registers-are ∙ counter ∙ sym changed-are;
             };
@@ -83,7 +83,7 @@ module _ (D : List ℕ → Dig) (D32 : (l : List ℕ) → length (D l) ≡ 32) (
         }
 
     -- each kind of wish
-    granted : (x : Wish) → Legal (w .items) x → GrantedBy x
+    granted : (x : Wish) → LegalWish (w .items) x → GrantedBy x
     granted (insertItem A) h =
         grants (insertItem A) (w .changed) (insert-brings g A (h .1) (h .0) (h .2)) refl (g .counter)
         (insert-ascending 0 A emptyRecord (w .items) (h .0) (h .2) (g .ascending)) (with-holds g A (h .0) (h .2))

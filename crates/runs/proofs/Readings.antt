@@ -16,7 +16,7 @@ use Rattle.paper.specs.Module.{Told, answerTo}
 use Rattle.rings.specs.Meanings.{StandsFor, Fault}
 use Rattle.rings.proofs.Nodes.{_>>=_, instead}
 use Rattle.rings.proofs.InPaper.{same-list}
-use Rattle.runs.specs.Run.{LineTurn, Issue, Reading, earliest, last, ofRuns, entered, isIssued, World, issuedBy, toldAt, next, after}
+use Rattle.runs.specs.Run.{LineTurn, Issue, BookReading, earliest, last, ofRuns, entered, isIssued, World, issuedBy, toldAt, next, after}
 use Rattle.runs.specs.Endings.{Ending, byForgery, earlier}
 use Rattle.runs.specs.Liveness.{latestFirst, fed}
 use Rattle.runs.specs.Also.{AllBacked, onwards, ReadingsAgree}
@@ -42,7 +42,7 @@ issued-append m (i ∷ a) b =
     ap (either (same (i .memorandum) m)) (issued-append m a b)
     ∙ sym (either-assoc (same (i .memorandum) m) (isIssued m a) (isIssued m b))
 
-issued-entered : (by : Reading) (m : Dig) (b i : List Issue) → isIssued m (entered by b i) ≡ either (isIssued m b) (isIssued m i)
+issued-entered : (by : BookReading) (m : Dig) (b i : List Issue) → isIssued m (entered by b i) ≡ either (isIssued m b) (isIssued m i)
 issued-entered earliest m b i = issued-append m b i
 issued-entered last m b i = issued-append m i b ∙ either-swap (isIssued m i) (isIssued m b)
 
@@ -79,7 +79,7 @@ module _ (D : List ℕ → Dig) where
   issued-alike v w (adopts n) m h = refl
   issued-alike v w (changes A r) m h = refl
 
-  pub alike-next : (by by′ : Reading) (v w : World) (t : LineTurn) → Alike v w → Alike (next D by v t) (next D by′ w t)
+  pub alike-next : (by by′ : BookReading) (v w : World) (t : LineTurn) → Alike v w → Alike (next D by v t) (next D by′ w t)
   alike-next by by′ v w t a =
       let e = told-alike v w t a in
       record {
@@ -95,7 +95,7 @@ module _ (D : List ℕ → Dig) where
 module _ (D : List ℕ → Dig) (D32 : (l : List ℕ) → length (D l) ≡ 32) where
   -- ── the invariant by either reading ──
 
-  core-next : (by : Reading) (k : Dig) (ts : List LineTurn) (v : World) (t : LineTurn) → Alike v (after D k ts) → Core D D32 v
+  core-next : (by : BookReading) (k : Dig) (ts : List LineTurn) (v : World) (t : LineTurn) → Alike v (after D k ts) → Core D D32 v
       → Ending D k (t ∷ ts) ⊎ Core D D32 (next D by v t)
   core-next by k ts v t a c = by-out (line-out D D32 by v t c)
     where

@@ -8,7 +8,7 @@ use native.Mathlib.Decide.{decLt}
 use native.Mathlib.Omega.{arith}
 use Rattle.paper.specs.Strings.{Dig}
 use Rattle.rings.specs.Trees.{TreeLeaf, points, TreeLeaf-discrete, tick, one, count}
-use Rattle.rings.specs.Lists.{ListItem, itemWith, Ascending, OnList, chainOf, ring}
+use Rattle.rings.specs.Lists.{ListItem, itemWith, AscendingFrom, OnList, chainOf, ring}
 use Rattle.rings.proofs.Counting.{one-same, count-nil, count-cons, count-cases, count-single}
 use Rattle.rings.proofs.Ring.{bounds, leaf-item}
 use Rattle.runs.specs.Ways.{itemOf, nextOf, hashIn}
@@ -53,14 +53,14 @@ lone-once of x (z ∷ l) g =
     ]
 
 module _ {R : Type 0} (h : R → Dig) where
-  lone-items : (a : ℕ) (r : R) (l : List (ListItem R)) (z : ℕ) → Ascending a l → Lone itemOf (chainOf h a r l z)
+  lone-items : (a : ℕ) (r : R) (l : List (ListItem R)) (z : ℕ) → AscendingFrom a l → Lone itemOf (chainOf h a r l z)
   lone-items a r [] z g = ((λ y k. absurd (omega (arith, count-nil y))), tt)
   lone-items a r (itemWith b s ∷ l) z g = (later, lone-items b s l z (g .1))
     where
       later : (y : TreeLeaf) → 0 < count y (chainOf h b s l z) → itemOf y ≢ a
       later (points A B w) k e = omega (arith, bounds h A B w b s l z (g .1) k .0, g .0)
 
-  lone-nexts : (a : ℕ) (r : R) (l : List (ListItem R)) (z : ℕ) → z ≤ a → Ascending a l → Lone nextOf (chainOf h a r l z)
+  lone-nexts : (a : ℕ) (r : R) (l : List (ListItem R)) (z : ℕ) → z ≤ a → AscendingFrom a l → Lone nextOf (chainOf h a r l z)
   lone-nexts a r [] z hz g = ((λ y k. absurd (omega (arith, count-nil y))), tt)
   lone-nexts a r (itemWith b s ∷ l) z hz g = (later, lone-nexts b s l z (omega (arith, g .0)) (g .1))
     where
@@ -71,18 +71,18 @@ module _ {R : Type 0} (h : R → Dig) where
 
   -- ── leaves of the ring ──
 
-  pub ring-once : (x : TreeLeaf) (ls : List (ListItem R)) → Ascending 0 ls → count x (ring h ls) ≤ 1
+  pub ring-once : (x : TreeLeaf) (ls : List (ListItem R)) → AscendingFrom 0 ls → count x (ring h ls) ≤ 1
   ring-once x [] g = omega (arith, count-nil x)
   ring-once x (itemWith a r ∷ l) g = lone-once itemOf x (chainOf h a r l a) (lone-items a r l a (g .1))
 
   -- no two have one item
-  pub one-of-item : (x y : TreeLeaf) (ls : List (ListItem R)) → Ascending 0 ls → itemOf x ≡ itemOf y → 0 < count x (ring h ls)
+  pub one-of-item : (x y : TreeLeaf) (ls : List (ListItem R)) → AscendingFrom 0 ls → itemOf x ≡ itemOf y → 0 < count x (ring h ls)
       → 0 < count y (ring h ls) → x ≡ y
   one-of-item x y [] g e m n = absurd (omega (arith, count-nil x))
   one-of-item x y (itemWith a r ∷ l) g e m n = lone-same itemOf x y (chainOf h a r l a) (lone-items a r l a (g .1)) e m n
 
   -- and no two lead to one item
-  pub one-to-item : (x y : TreeLeaf) (ls : List (ListItem R)) → Ascending 0 ls → nextOf x ≡ nextOf y → 0 < count x (ring h ls)
+  pub one-to-item : (x y : TreeLeaf) (ls : List (ListItem R)) → AscendingFrom 0 ls → nextOf x ≡ nextOf y → 0 < count x (ring h ls)
       → 0 < count y (ring h ls) → x ≡ y
   one-to-item x y [] g e m n = absurd (omega (arith, count-nil x))
   one-to-item x y (itemWith a r ∷ l) g e m n =

@@ -17,9 +17,9 @@ use Rattle.rings.specs.Meanings.{Fault}
 use Rattle.rings.proofs.Nodes.{_>>=_, instead}
 use Rattle.rings.proofs.Endings.{fault-shows}
 use Rattle.rings.proofs.InPaper.{holds-ring}
-use Rattle.runs.specs.Run.{LineTurn, Reading, ofRuns, World, start, toldAt, landed, after}
+use Rattle.runs.specs.Run.{LineTurn, BookReading, ofRuns, World, start, toldAt, landed, after}
 use Rattle.runs.specs.Endings.{Ending, byCollision, byZeroDigest, byForgery, earlier}
-use Rattle.runs.specs.Safety.{Stands, LegalEffect, AllFair, SafeOrEnded, Safety}
+use Rattle.runs.specs.Safety.{TreeStands, LegalEffect, AllFair, SafeOrEnded, Safety}
 use Rattle.runs.proofs.Lines.{asked, kindIn, Sorted, refusal, acceptance, sorted}
 use Rattle.runs.proofs.Formed.{Well, well-at}
 use Rattle.runs.proofs.Carried.{Forgery, Given}
@@ -31,14 +31,14 @@ use Rattle.runs.proofs.Sizes.{listed-fits}
 module _ (D : List ℕ → Dig) (D32 : (l : List ℕ) → length (D l) ≡ 32) where
   -- ── what a line comes to, by its answer ──
 
-  abbrev pub Out : Reading → World → Request → Told → Type 0
+  abbrev pub Out : BookReading → World → Request → Told → Type 0
   Out by w q a =
       (Fault (digestOf D) (a .formed ++ w .formed) ⊎ ((a .refusal ≡ 0) × Forgery D w q))
       ⊎ (Core D D32 (landed D by w a) × (a .refusal ≡ 0 → TrueFor D (w .items) q) × LegalEffect D w (a .effect))
 
   -- ── any line ──
 
-  pub line-out : (by : Reading) (w : World) (t : LineTurn) → Core D D32 w → Out by w (asked t) (toldAt D w t)
+  pub line-out : (by : BookReading) (w : World) (t : LineTurn) → Core D D32 w → Out by w (asked t) (toldAt D w t)
   line-out by w t c = by-sort (sorted D (w .registers) (t .line) (t .space))
     where
       by-sort : Sorted D (w .registers) (t .line) (t .space) → Out by w (asked t) (toldAt D w t)
@@ -88,7 +88,7 @@ module _ (D : List ℕ → Dig) (D32 : (l : List ℕ) → length (D l) ≡ 32) w
       ends (inl f) = shown k (t ∷ ts) f
       ends (inr x) = byForgery t (record { accepted = x .0; memorandum = x .1 .0; carries = x .1 .1; unissued = x .1 .2 })
 
-  pub stands-of : (w : World) → Core D D32 w → Well (w .formed) → Stands D w
+  pub stands-of : (w : World) → Core D D32 w → Well (w .formed) → TreeStands D w
   stands-of w c well =
       record {
         tree = c .tree;

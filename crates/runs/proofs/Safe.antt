@@ -24,7 +24,7 @@ use Rattle.paper.specs.declared.Finding.the-variants.{Recorded, Listed, Gap}
 use Rattle.paper.proofs.Verdicts.{opposite-false, the-one}
 use Rattle.rings.specs.Trees.{Tree, hashOf}
 use Rattle.rings.specs.Lists.{itemWith}
-use Rattle.rings.specs.Meanings.{Within, RecordKnown, known-empty, known-recorded, StandsFor, Means}
+use Rattle.rings.specs.Meanings.{Within, RecordKnown, known-empty, known-recorded, StandsFor, MemoMeans}
 use Rattle.rings.proofs.Nodes.{_>>=_, instead}
 use Rattle.rings.proofs.Memos.{stands-more}
 use Rattle.rings.proofs.Bridge.{hash-is, known-by}
@@ -32,7 +32,7 @@ use Rattle.rings.proofs.Paths.{path}
 use Rattle.rings.proofs.TreeKinds as T
 use Rattle.rings.proofs.RingKinds as R
 use Rattle.rings.proofs.InPaper as P
-use Rattle.runs.specs.Run.{Reading, Items, stepsFor, meaning, World, landed}
+use Rattle.runs.specs.Run.{BookReading, Items, stepsFor, meaning, World, landed}
 use Rattle.runs.specs.Safety.{TrueFinding, LegalEffect}
 use Rattle.runs.specs.Also.{AllBacked}
 use Rattle.runs.proofs.Book.{entered-none, entry-by, book-more, book-enter}
@@ -84,7 +84,7 @@ module _ (D : List ℕ → Dig) (D32 : (l : List ℕ) → length (D l) ≡ 32) w
 
   -- ── a line that changes nothing but the strings ──
 
-  pub kept-core : (by : Reading) (w : World) (a : Told) → a .after .root ≡ w .registers .root → a .after .counter
+  pub kept-core : (by : BookReading) (w : World) (a : Told) → a .after .root ≡ w .registers .root → a .after .counter
       ≡ w .registers .counter
       → a .effect ≡ none′ → Core w → Core (landed D by w a)
   kept-core by w a r c e v =
@@ -112,7 +112,7 @@ module _ (D : List ℕ → Dig) (D32 : (l : List ℕ) → length (D l) ≡ 32) w
 
   -- ── an accepted line ──
 
-  module _ (by : Reading) (w : World) (kind : ℕ) (fs : List Str) (v : Core w) where
+  module _ (by : BookReading) (w : World) (kind : ℕ) (fs : List Str) (v : Core w) where
     abbrev s : Registers
     s = w .registers
 
@@ -147,13 +147,13 @@ module _ (D : List ℕ → Dig) (D32 : (l : List ℕ) → length (D l) ≡ 32) w
 
     -- a memorandum that the check of number n asks to say t, behind other strings or none
     means-after : {q : Request} {l : List Str} {t : Memo} {m : Dig} → Asked D w (G q) q l (t ∷ []) m
-        → Or D w (G q) q (Means dig (G q) t (stepsFor m (w .book)))
+        → Or D w (G q) q (MemoMeans dig (G q) t (stepsFor m (w .book)))
     means-after {q} {l} {t} {m} a = C.means D w (G q) (backed q) t m a
 
     means : {q : Request} (g : GivenTo q) (n : ℕ) (t : Memo) (m : Dig)
         → those n (needs D s q)
         ≡ record { number = n; fails = noneFits D key (t ∷ []) m; forms = tried D key (t ∷ []) m; compares = m ∷ [] } ∷ []
-        → Or D w (G q) q (Means dig (G q) t (stepsFor m (w .book)))
+        → Or D w (G q) q (MemoMeans dig (G q) t (stepsFor m (w .book)))
     means {q} g n t m e = means-after (asked-at D w (G q) g n [] (t ∷ []) m e)
 
     -- the strings that an answer forms before its memorandum
@@ -164,7 +164,7 @@ module _ (D : List ℕ → Dig) (D32 : (l : List ℕ) → length (D l) ≡ 32) w
     -- a line that issues a memorandum whose meaning is known; its strings are the first that the answer forms
     issued : {q : Request} (g : GivenTo q) {t : Memo} {c : ListChange} {l : List Str} → answer D s q .after ≡ s
         → answer D s q .effect ≡ issues t c → answer D s q .forms ≡ memorandumForms D t key ++ l
-        → Means dig (G q) t (meaning (w .book) c) → Comes q
+        → MemoMeans dig (G q) t (meaning (w .book) c) → Comes q
     issued {q} g {t} {l = l} e₁ e₂ e₃ m =
         inr (
           record {

@@ -16,7 +16,7 @@ use Rattle.paper.specs.Answers.{rooted, raised, answer}
 use Rattle.paper.specs.Module.{Told, toldBy}
 use Rattle.paper.proofs.Early.{late}
 use Rattle.paper.proofs.Verdicts.{opposite-false, the-one}
-use Rattle.runs.specs.Run.{LineTurn, Reading, ofRuns, World, toldAt, landed, next, after}
+use Rattle.runs.specs.Run.{LineTurn, BookReading, ofRuns, World, toldAt, landed, next, after}
 use Rattle.runs.specs.Sizes.{InEightBytes}
 use Rattle.runs.specs.Safety.{Untouched}
 use Rattle.runs.proofs.Accepted.{NoneApplies}
@@ -89,7 +89,7 @@ module _ (D : List ℕ → Dig) (D32 : (l : List ℕ) → length (D l) ≡ 32) w
     pub closed : w .registers .opened ≡ false → Untouched D secret w
 
   -- a refused line
-  refused-side : (by : Reading) (k : Dig) (w : World) (kind : ℕ) (q : Request) (n : ℕ) (fs : List Str) → Well fs
+  refused-side : (by : BookReading) (k : Dig) (w : World) (kind : ℕ) (q : Request) (n : ℕ) (fs : List Str) → Well fs
       → (w .registers .opened ≡ false → fs ≡ []) → Side k w → Side k (landed D by w (toldBy D (w .registers) kind q (refusedBy n fs)))
   refused-side by k w kind q n fs h none v =
       record {
@@ -108,7 +108,7 @@ module _ (D : List ℕ → Dig) (D32 : (l : List ℕ) → length (D l) ≡ 32) w
       }
 
   -- an accepted line
-  accepted-side : (by : Reading) (k : Dig) (w : World) (kind : ℕ) (q : Request) (fs : List Str)
+  accepted-side : (by : BookReading) (k : Dig) (w : World) (kind : ℕ) (q : Request) (fs : List Str)
       → NoneApplies (needs D (w .registers) q) → Wide q
       → Well (toldBy D (w .registers) kind q (allPassed fs) .formed) → Side k w → Side k
       (landed D by w (toldBy D (w .registers) kind q (allPassed fs)))
@@ -140,7 +140,7 @@ module _ (D : List ℕ → Dig) (D32 : (l : List ℕ) → length (D l) ≡ 32) w
             subst (λ (v : Verdict). Well (toldBy D s kind q v .formed)) e (well-formed D D32 s kind q small (keyed o) h)
         by-open false o = subst Well (sym (read-shut u e o)) tt
 
-  line-side : (by : Reading) (k : Dig) (w : World) (t : LineTurn) → Side k w → Side k (next D by w t)
+  line-side : (by : BookReading) (k : Dig) (w : World) (t : LineTurn) → Side k w → Side k (next D by w t)
   line-side by k w t v = by-sort (sorted D (w .registers) (t .line) (t .space))
     where
       by-sort : Sorted D (w .registers) (t .line) (t .space) → Side k (landed D by w (toldAt D w t))

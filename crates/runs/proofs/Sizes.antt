@@ -16,7 +16,7 @@ use Rattle.paper.specs.declared.Registers.{Registers}
 use Rattle.paper.specs.Strings.{Dig, Str, leaf, entry, digestOf, emptyRecord, malformed}
 use Rattle.paper.specs.Refusals.{top, nextRecord}
 use Rattle.rings.specs.Trees.{points, Tree, empty, tip, branch, leaves, count}
-use Rattle.rings.specs.Lists.{itemWith, Ascending, OnList, insert, remove, putRecord}
+use Rattle.rings.specs.Lists.{itemWith, AscendingFrom, OnList, insert, remove, putRecord}
 use Rattle.rings.specs.Meanings.{_∈_, TreeIn, hashRecord, RecordKnown, known-empty, known-recorded}
 use Rattle.rings.proofs.Counting.{count-nil, count-append, count-single}
 use Rattle.rings.proofs.Items.{record-at, listed-above}
@@ -30,7 +30,7 @@ use Rattle.runs.proofs.Safe.{Core}
 
 -- ── one record for each item ──
 
-pub record-is : (b A : ℕ) (r : Record) (l : Items) → Ascending b l → OnList A r l → recordOf A l ≡ r
+pub record-is : (b A : ℕ) (r : Record) (l : Items) → AscendingFrom b l → OnList A r l → recordOf A l ≡ r
 record-is b A r [] g m = elim m [ ]
 record-is b A r (itemWith a s ∷ l) g m =
     elim (List·Memᴰ·cases-cons m) [

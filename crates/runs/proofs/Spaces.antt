@@ -13,7 +13,7 @@ use Rattle.paper.specs.Refusals.{plain, order, replyRoom, isHex, needs, judge, 
 use Rattle.paper.specs.Module.{Told, frameChecks, toldBy, answerTo}
 use Rattle.runs.specs.Run.{LineTurn, last, World, toldAt, landed, next}
 use Rattle.runs.specs.Frames.{linesOf, turnOf, turnsOf}
-use Rattle.runs.specs.Liveness.{AllIssued, Spaced, fed, Honest, lastReply}
+use Rattle.runs.specs.Liveness.{AllIssued, Spaced, fed, HonestTurns, lastReply}
 
 -- just 195 will do
 pub some-turns : (lines : List (List ℕ)) → (us : List LineTurn) × Spaced lines us
@@ -51,15 +51,15 @@ module _ (D : List ℕ → Dig) where
   fed-same w (q ∷ qs) (t ∷ us) h =
       ap (λ (v : World). fed D v us) (next-same w q t (h .0) (h .1)) ∙ fed-same (next D last w (turnOf q)) qs us (h .2)
 
-  pub honest-same : (w : World) (qs : List Request) (us : List LineTurn) → Spaced (linesOf qs) us → Honest D w (turnsOf qs)
-      → Honest D w us
+  pub honest-same : (w : World) (qs : List Request) (us : List LineTurn) → Spaced (linesOf qs) us → HonestTurns D w (turnsOf qs)
+      → HonestTurns D w us
   honest-same w [] [] h k = tt
   honest-same w [] (t ∷ us) h k = absurd h
   honest-same w (q ∷ qs) [] h k = absurd h
   honest-same w (q ∷ qs) (t ∷ us) h k = (
     ap (λ (a : Told). a .refusal) (told-same w q t (h .0) (h .1)) ∙ k .0,
     subst (λ (l : List ℕ). AllIssued (carriedMemoranda D (w .registers) (requestOf (bytesOf l))) (w .book)) (sym (h .0)) (k .1),
-    subst (λ (v : World). Honest D v us) (sym (next-same w q t (h .0) (h .1)))
+    subst (λ (v : World). HonestTurns D v us) (sym (next-same w q t (h .0) (h .1)))
         (honest-same (next D last w (turnOf q)) qs us (h .2) (k .2)),
   )
 

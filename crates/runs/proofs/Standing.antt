@@ -9,8 +9,8 @@ use Rattle.paper.specs.declared.Record.{Record}
 use Rattle.paper.specs.declared.Registers.{Registers}
 use Rattle.paper.specs.Strings.{Dig, leaf, digestOf, recordHash}
 use Rattle.paper.specs.Refusals.{leafOf}
-use Rattle.rings.specs.Trees.{TreeLeaf, points, Tree, tip, leaves, hashOf, count, Permuted}
-use Rattle.rings.specs.Lists.{Ascending, OnList, ring}
+use Rattle.rings.specs.Trees.{TreeLeaf, points, Tree, tip, leaves, hashOf, count, SameLeaves}
+use Rattle.rings.specs.Lists.{AscendingFrom, OnList, ring}
 use Rattle.rings.proofs.Items.{listed-above}
 use Rattle.rings.proofs.Find.{item-leaf}
 use Rattle.runs.specs.Run.{World}
@@ -31,8 +31,8 @@ module _ (D : List ℕ → Dig) where
   pub record Ground (w : World) (T : Tree) : Type 0 where
     pub ready : Ready D w
     pub root : hashOf D T ≡ w .registers .root
-    pub ascending : Ascending 0 (w .items)
-    pub holds : Permuted (leaves T) (ring (recordHash D) (w .items))
+    pub ascending : AscendingFrom 0 (w .items)
+    pub holds : SameLeaves (leaves T) (ring (recordHash D) (w .items))
     pub counter : w .registers .counter .0 ≡ w .changed
     pub fits : ItemsFit (w .items)
 

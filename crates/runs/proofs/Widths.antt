@@ -13,7 +13,7 @@ use Rattle.seqs.specs.Bytes.{Bytes, numberOf, number8, numberAt, number-at}
 use Rattle.paper.specs.Strings.{Dig}
 use Rattle.rings.proofs.Paths.{AllWide}
 use Rattle.paper.specs.Requests as Q
-use Rattle.paper.specs.Requests.{Request, Carried, aNumber, aDigest, aRecord, theValues, aPath, countIn, digestsIn, siblingsIn, recordIn, valuesIn, Kind, kinds, kindOf, known, rowOf, takes, takesAll, part, fits, requestOf}
+use Rattle.paper.specs.Requests.{Request, Carried, aNumber, aDigest, aRecord, theValues, aPath, countIn, digestsIn, siblingsIn, recordIn, valuesIn, KindRow, kinds, kindOf, known, rowOf, takes, takesAll, part, fits, requestOf}
 use Rattle.runs.specs.Sizes.{InEightBytes, ValuesFit, RecordFits}
 
 -- ── widths ──
@@ -118,14 +118,14 @@ sized-parts (c ∷ cs) l h n (suc i) =
 
 -- ── every row of the table ──
 
-abbrev WideRow : Kind → Type 0
+abbrev WideRow : KindRow → Type 0
 WideRow k = (p : ℕ → List ℕ) → ((i : ℕ) → SizedAt (k .carries) i (p i)) → Wide (k .reads p)
 
-abbrev WideRows : List Kind → Type 0
+abbrev WideRows : List KindRow → Type 0
 WideRows [] = Unit {0}
 WideRows (k ∷ ks) = WideRow k × WideRows ks
 
-wide-row : (ks : List Kind) (i : ℕ) (d : Kind) → i < length ks → WideRows ks → WideRow (getD ks i d)
+wide-row : (ks : List KindRow) (i : ℕ) (d : KindRow) → i < length ks → WideRows ks → WideRow (getD ks i d)
 wide-row [] i d n h = absurd (omega arith)
 wide-row (k ∷ ks) zero d n h = h .0
 wide-row (k ∷ ks) (suc i) d n h = wide-row ks i d (omega arith) (h .1)
@@ -156,7 +156,7 @@ rows =
 pub wide : (f : List ℕ) → Bytes f → known (kindOf f) ≡ true → fits f ≡ true → Wide (requestOf f)
 unfolding known fits requestOf
 wide f h k n =
-    let row : Kind = rowOf (kindOf f) in
+    let row : KindRow = rowOf (kindOf f) in
     let known-by = both-true (leb 1 (kindOf f)) (leb (kindOf f) (length kinds)) k in
     let lo = leb-true 1 (kindOf f) (known-by .0) in
     let hi = leb-true (kindOf f) (length kinds) (known-by .1) in

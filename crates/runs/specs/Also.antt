@@ -15,13 +15,13 @@ use Rattle.paper.specs.Requests.{kindOf}
 use Rattle.paper.specs.Collisions.{Collision}
 use Rattle.rings.specs.Trees.{Tree}
 use Rattle.rings.specs.Endings.{ZeroDigest}
-use Rattle.rings.specs.Meanings.{Within, Means}
+use Rattle.rings.specs.Meanings.{Within, MemoMeans}
 use Rattle.runs.specs.Run.{LineTurn, Items, Issue, stepsFor, isIssued, World, toldAt, after}
 use Rattle.runs.specs.Endings.{Forged, Ending}
-use Rattle.runs.specs.Safety.{Stands, Safe}
+use Rattle.runs.specs.Safety.{TreeStands, SafeRun}
 use Rattle.runs.specs.Wishes.{Wish}
 use Rattle.runs.specs.Outcomes.{itemsAfter}
-use Rattle.runs.specs.Liveness.{latestFirst, fed, Honest, Grants}
+use Rattle.runs.specs.Liveness.{latestFirst, fed, HonestTurns, GrantsWish}
 
 -- further lines, in order, behind those of a run, the latest first
 abbrev pub onwards : (further run : List LineTurn) → List LineTurn
@@ -73,7 +73,7 @@ module _ (D : List ℕ → Dig) where
   -- without a collision or an all-zero digest among the strings formed, and without a forged memorandum, a run is safe
   abbrev pub NoOtherWayOut : Type 0
   NoOtherWayOut =
-      (k : Dig) (ts : List LineTurn) → (Shown (after D k ts .formed) → ⊥) → (AnyForged k ts → ⊥) → Safe D k ts
+      (k : Dig) (ts : List LineTurn) → (Shown (after D k ts .formed) → ⊥) → (AnyForged k ts → ⊥) → SafeRun D k ts
 
   -- A run that is not open has not ended, and the line that opens it, or any other line at a module that is not open, does not
   -- end it: so no run of one line has ended, whatever the line is.
@@ -87,18 +87,18 @@ module _ (D : List ℕ → Dig) where
   -- Honest lines end no run: where one has ended behind them, it had before, or something can be shown among the strings.
   abbrev pub HonestEndsNothing : Type 0
   HonestEndsNothing =
-      (k : Dig) (ts us : List LineTurn) → Honest D (latestFirst (after D k ts)) us → Ending D k (onwards us ts)
+      (k : Dig) (ts us : List LineTurn) → HonestTurns D (latestFirst (after D k ts)) us → Ending D k (onwards us ts)
       → Ending D k ts ⊎ Shown (after D k (onwards us ts) .formed)
 
   -- Granted wishes seen by the replay of runs, whichever lines grant them: the run had ended before those lines, or among the
   -- strings something can be shown, or behind them the run's own list is the one wanted and a tree stands for it.
   pub record ReplayComesTo (k : Dig) (ts us : List LineTurn) (l : Items) : Type 0 where
     pub items : after D k (onwards us ts) .items ≡ l
-    pub stands : Stands D (after D k (onwards us ts))
+    pub stands : TreeStands D (after D k (onwards us ts))
 
   abbrev pub HonestReplayed : Type 0
   HonestReplayed =
-      (k : Dig) (ts us : List LineTurn) (T : Tree) (x : Wish) → Grants D (latestFirst (after D k ts)) T x us
+      (k : Dig) (ts us : List LineTurn) (T : Tree) (x : Wish) → GrantsWish D (latestFirst (after D k ts)) T x us
       → Ending D k ts
       ⊎ (Shown (after D k (onwards us ts) .formed)
       ⊎ ReplayComesTo k ts us (itemsAfter (after D k ts .registers) (after D k ts .items) x))
@@ -127,7 +127,7 @@ module _ (D : List ℕ → Dig) where
     pub key : Dig
     pub formed : Within (memorandumForms D says key) F
     pub memorandum-is : memorandum D says key ≡ i .memorandum
-    pub means : Means (digestOf D) F says (i .does)
+    pub means : MemoMeans (digestOf D) F says (i .does)
 
   abbrev pub AllBacked : List Str → List Issue → Type 0
   AllBacked F [] = Unit {0}
@@ -151,6 +151,6 @@ module _ (D : List ℕ → Dig) where
     pub earliest-stays : EarliestStays
 
 -- for SHA-256, and for any digest of 32 bytes
-pub record Also : Type 0 where
+pub record AlsoHolds : Type 0 where
   pub at-sha256 : AlsoFor sha256
   pub at-any : (D : List ℕ → Dig) → ((l : List ℕ) → length (D l) ≡ 32) → AlsoFor D

@@ -1,5 +1,5 @@
 -- What is legal and what is true of one short list, row by row, and the replies to three questions, byte by byte, as tables under
--- one statement, `ListByHand`: a definition of `Legal` or of `TrueFinding` made narrower or wider breaks a row. `proofs/ByHand`
+-- one statement, `ListByHand`: a definition of `LegalWish` or of `TrueFinding` made narrower or wider breaks a row. `proofs/ByHand`
 -- shows it.
 use mathlib.Core.Path.{_≡_}
 use mathlib.Core.Bool.{true}
@@ -19,7 +19,7 @@ use Rattle.paper.specs.Module.{answerTo}
 use Rattle.rings.specs.Lists.{itemWith}
 use Rattle.runs.specs.Run.{Items}
 use Rattle.runs.specs.Safety.{TrueFinding}
-use Rattle.runs.specs.Wishes.{Wish, insertItem, removeItem, swapPlaces, setRecord, clearRecord, askAbout, Legal}
+use Rattle.runs.specs.Wishes.{Wish, insertItem, removeItem, swapPlaces, setRecord, clearRecord, askAbout, LegalWish}
 
 -- a record of four numbers, a set's values of three
 abbrev pub fourNumbers : (revision mass offset rigging : ℕ) → Record
@@ -59,8 +59,8 @@ pub data ListRow : Type 0 where
   denies : (q : ℕ) → Finding → ListRow
 
 abbrev pub ListRowSays : (D : List ℕ → Dig) → ListRow → Type 0
-ListRowSays D (permits x) = Legal small x
-ListRowSays D (forbids x) = Legal small x → ⊥
+ListRowSays D (permits x) = LegalWish small x
+ListRowSays D (forbids x) = LegalWish small x → ⊥
 ListRowSays D (bears q f) = TrueFinding D q f small
 ListRowSays D (denies q f) = TrueFinding D q f small → ⊥
 

@@ -21,8 +21,8 @@ use Rattle.paper.specs.Answers.{findingBytes}
 use Rattle.rings.specs.Trees.{Tree, hashOf}
 use Rattle.runs.specs.Run.{LineTurn, Items, last, Issue, isIssued, World, toldAt, next, after}
 use Rattle.runs.specs.Endings.{Ending}
-use Rattle.runs.specs.Safety.{Stands, TrueFinding}
-use Rattle.runs.specs.Wishes.{Wish, insertItem, removeItem, swapPlaces, setRecord, clearRecord, askAbout, Legal}
+use Rattle.runs.specs.Safety.{TreeStands, TrueFinding}
+use Rattle.runs.specs.Wishes.{Wish, insertItem, removeItem, swapPlaces, setRecord, clearRecord, askAbout, LegalWish}
 use Rattle.runs.specs.Outcomes.{itemsAfter, registersAfter, LeavesMoved}
 use Rattle.runs.specs.Frames.{linesOf}
 use Rattle.runs.specs.Honest.{honestLines}
@@ -59,11 +59,11 @@ module _ (D : List ℕ → Dig) where
   fed w (t ∷ ts) = fed (next D last w t) ts
 
   -- each is accepted where it comes, and carries only memoranda issued before it
-  abbrev pub Honest : World → List LineTurn → Type 0
-  Honest w [] = Unit {0}
-  Honest w (t ∷ ts) =
+  abbrev pub HonestTurns : World → List LineTurn → Type 0
+  HonestTurns w [] = Unit {0}
+  HonestTurns w (t ∷ ts) =
       (toldAt D w t .refusal ≡ 0) × AllIssued (carriedMemoranda D (w .registers) (requestOf (bytesOf (t .line)))) (w .book)
-      × Honest (next D last w t) ts
+      × HonestTurns (next D last w t) ts
 
   -- the reply to the last of them, as bytes
   abbrev pub lastReply : World → List LineTurn → List ℕ
@@ -89,10 +89,10 @@ module _ (D : List ℕ → Dig) where
 
   -- Turns that do just what is wanted at a world that the tree T stands for: a tree stands for the list again, the list, the
   -- registers and the places of leaves are those of `Outcomes`, and a question is answered truly.
-  pub record Grants (w : World) (T : Tree) (x : Wish) (us : List LineTurn) : Type 0 where
-    pub honest : Honest w us
+  pub record GrantsWish (w : World) (T : Tree) (x : Wish) (us : List LineTurn) : Type 0 where
+    pub honest : HonestTurns w us
     pub items : fed w us .items ≡ itemsAfter (w .registers) (w .items) x
-    pub stands : Stands D (fed w us)
+    pub stands : TreeStands D (fed w us)
     pub registers : fed w us .registers ≡ registersAfter (w .registers) (hashOf D (stands .tree)) x
     pub moved : LeavesMoved x T (stands .tree)
     pub answered : AnsweredTruly x (w .items) (lastReply w us)
@@ -102,23 +102,23 @@ module _ (D : List ℕ → Dig) where
   -- lines as bytes, without their 0A, that do so whatever their reply spaces
   pub record Grantable (w : World) (T : Tree) (x : Wish) : Type 0 where
     pub lines : List (List ℕ)
-    pub grant : (us : List LineTurn) → Spaced lines us → Grants w T x us
+    pub grant : (us : List LineTurn) → Spaced lines us → GrantsWish w T x us
 
   -- at any world that a tree stands for, however it came about
   abbrev pub AllGrantable : Type 0
   AllGrantable =
-      (w : World) (s : Stands D w) → w .registers .opened ≡ true → w .registers .counter .0 < top → (x : Wish)
-      → Legal (w .items) x → Grantable (latestFirst w) (s .tree) x
+      (w : World) (s : TreeStands D w) → w .registers .opened ≡ true → w .registers .counter .0 < top → (x : Wish)
+      → LegalWish (w .items) x → Grantable (latestFirst w) (s .tree) x
 
   -- after any run: a tree stands for the world, and from every such tree every legal wish is granted
-  pub record Live (w : World) : Type 0 where
-    pub stands : Stands D w
-    pub grants : (s : Stands D w) (x : Wish) → Legal (w .items) x → Grantable (latestFirst w) (s .tree) x
+  pub record LiveAt (w : World) : Type 0 where
+    pub stands : TreeStands D w
+    pub grants : (s : TreeStands D w) (x : Wish) → LegalWish (w .items) x → Grantable (latestFirst w) (s .tree) x
 
   abbrev pub LiveOrEnded : Type 0
   LiveOrEnded =
       (secret : Dig) (ts : List LineTurn) → after D secret ts .registers .opened ≡ true
-      → after D secret ts .registers .counter .0 < top → Ending D secret ts ⊎ Live (after D secret ts)
+      → after D secret ts .registers .counter .0 < top → Ending D secret ts ⊎ LiveAt (after D secret ts)
 
   -- ── functions that give them ──
 
@@ -128,13 +128,13 @@ module _ (D : List ℕ → Dig) where
 
   -- they grant it, and the tree after them is that of `TreesAfter`
   pub record Granted (w : World) (T : Tree) (x : Wish) (us : List LineTurn) : Type 0 where
-    pub grants : Grants w T x us
+    pub grants : GrantsWish w T x us
     pub tree : grants .stands .tree ≡ treeAfter D (w .registers) T (w .items) x
 
   abbrev pub FunctionsGrant : Type 0
   FunctionsGrant =
-      (w : World) (s : Stands D w) → w .registers .opened ≡ true → w .registers .counter .0 < top → (x : Wish)
-      → Legal (w .items) x → (us : List LineTurn) → Spaced (linesFor (latestFirst w) (s .tree) x) us
+      (w : World) (s : TreeStands D w) → w .registers .opened ≡ true → w .registers .counter .0 < top → (x : Wish)
+      → LegalWish (w .items) x → (us : List LineTurn) → Spaced (linesFor (latestFirst w) (s .tree) x) us
       → Granted (latestFirst w) (s .tree) x us
 
   pub record LivenessFor : Type 0 where

@@ -31,15 +31,15 @@ pub record Issue : Type 0 where
 
 -- A memorandum is read by the earliest line that issued it; of honest lines, by the last. A book is searched from its
 -- front, so that is where the reading's own line has to stand.
-pub data Reading : Type 0 where
-  earliest : Reading
-  last : Reading
+pub data BookReading : Type 0 where
+  earliest : BookReading
+  last : BookReading
 
 -- "A memorandum stands for what the earliest line that issued it does"
-abbrev pub ofRuns : Reading
+abbrev pub ofRuns : BookReading
 ofRuns = earliest
 
-abbrev pub entered : Reading → (book new : List Issue) → List Issue
+abbrev pub entered : BookReading → (book new : List Issue) → List Issue
 entered earliest b i = b ++ i
 entered last b i = i ++ b
 
@@ -101,7 +101,7 @@ module _ (D : List ℕ → Dig) where
   abbrev pub start : (secret : Dig) → World
   start k = record { registers = unopened k; formed = []; book = []; items = []; changed = 0 }
 
-  module _ (by : Reading) where
+  module _ (by : BookReading) where
     abbrev pub landed : World → Told → World
     landed w a =
         record {

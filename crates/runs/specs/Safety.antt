@@ -16,8 +16,8 @@ use Rattle.paper.specs.Requests.{kindOf}
 use Rattle.paper.specs.Refusals.{clearedRecord}
 use Rattle.paper.specs.Answers.{Effect, none′, issues, adopts, changes, findingBytes, findingIn}
 use Rattle.paper.specs.Module.{unopened}
-use Rattle.rings.specs.Trees.{Tree, points, leaves, hashOf, Permuted}
-use Rattle.rings.specs.Lists.{Ascending, OnList, Unlisted, ring}
+use Rattle.rings.specs.Trees.{Tree, points, leaves, hashOf, SameLeaves}
+use Rattle.rings.specs.Lists.{AscendingFrom, OnList, Unlisted, ring}
 use Rattle.rings.specs.Changes.{LegalSteps}
 use Rattle.runs.specs.Run.{LineTurn, Items, stepsFor, World, toldAt, after}
 use Rattle.runs.specs.Sizes.{ItemsFit}
@@ -30,11 +30,11 @@ questionIn f = numberOf (take 8 (drop 1 f))
 module _ (D : List ℕ → Dig) where
   -- "the root is that of a tree whose leaves form one ascending ring of distinct item numbers and hold exactly the list
   -- got by replaying"; "the counter is the number of accepted record changes"; and what is listed fits lines
-  pub record Stands (w : World) : Type 0 where
+  pub record TreeStands (w : World) : Type 0 where
     pub tree : Tree
     pub root : hashOf D tree ≡ w .registers .root
-    pub ascending : Ascending 0 (w .items)
-    pub holds : Permuted (leaves tree) (ring (recordHash D) (w .items))
+    pub ascending : AscendingFrom 0 (w .items)
+    pub holds : SameLeaves (leaves tree) (ring (recordHash D) (w .items))
     pub fits : ItemsFit (w .items)
     pub counter : w .registers .counter .0 ≡ w .changed
 
@@ -66,14 +66,14 @@ module _ (D : List ℕ → Dig) where
       × ((r .revision .0 ≡ w .registers .counter .0 + 1) ⊎ (r ≡ clearedRecord))
 
   -- one line at its world
-  pub record Fair (w : World) (t : LineTurn) : Type 0 where
+  pub record FairLine (w : World) (t : LineTurn) : Type 0 where
     pub true-answer : toldAt D w t .refusal ≡ 0 → TrueAnswer (bytesOf (t .line)) (toldAt D w t .says) (w .items)
     pub legal : LegalEffect w (toldAt D w t .effect)
 
   -- every line so far
   abbrev pub AllFair : (secret : Dig) → List LineTurn → Type 0
   AllFair k [] = Unit {0}
-  AllFair k (t ∷ ts) = Fair (after D k ts) t × AllFair k ts
+  AllFair k (t ∷ ts) = FairLine (after D k ts) t × AllFair k ts
 
   -- before opening nothing is formed, issued or changed
   pub record Untouched (secret : Dig) (w : World) : Type 0 where
@@ -83,14 +83,14 @@ module _ (D : List ℕ → Dig) where
     pub listed : w .items ≡ []
     pub changed : w .changed ≡ 0
 
-  pub record Safe (secret : Dig) (ts : List LineTurn) : Type 0 where
-    pub stands : Stands (after D secret ts)
+  pub record SafeRun (secret : Dig) (ts : List LineTurn) : Type 0 where
+    pub stands : TreeStands (after D secret ts)
     pub fair : AllFair secret ts
     pub closed : after D secret ts .registers .opened ≡ false → Untouched secret (after D secret ts)
 
   -- after any lines, however damaged
   abbrev pub SafeOrEnded : Type 0
-  SafeOrEnded = (secret : Dig) (ts : List LineTurn) → Ending D secret ts ⊎ Safe secret ts
+  SafeOrEnded = (secret : Dig) (ts : List LineTurn) → Ending D secret ts ⊎ SafeRun secret ts
 
 -- for SHA-256, and for any digest of 32 bytes
 pub record Safety : Type 0 where

@@ -24,10 +24,10 @@ IsListed A l = (r : Record) × OnList A r l
 
 -- "to insert a number that isn't 0 and isn't listed, to remove a listed empty item, to swap the places of two listed items,
 -- to set a listed item, to clear a recorded one"; "every question on a number above 0"
-abbrev pub Legal : Items → Wish → Type 0
-Legal l (insertItem A) = (0 < A) × InEightBytes A × Unlisted A l
-Legal l (removeItem A) = OnList A emptyRecord l
-Legal l (swapPlaces A B) = (A ≢ B) × IsListed A l × IsListed B l
-Legal l (setRecord A v) = IsListed A l × ValuesFit v
-Legal l (clearRecord A) = (r : Record) × OnList A r l × (blank r ≡ false)
-Legal l (askAbout q) = (0 < q) × InEightBytes q
+abbrev pub LegalWish : Items → Wish → Type 0
+LegalWish l (insertItem A) = (0 < A) × InEightBytes A × Unlisted A l
+LegalWish l (removeItem A) = OnList A emptyRecord l
+LegalWish l (swapPlaces A B) = (A ≢ B) × IsListed A l × IsListed B l
+LegalWish l (setRecord A v) = IsListed A l × ValuesFit v
+LegalWish l (clearRecord A) = (r : Record) × OnList A r l × (blank r ≡ false)
+LegalWish l (askAbout q) = (0 < q) × InEightBytes q

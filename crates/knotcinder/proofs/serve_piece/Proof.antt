@@ -10,7 +10,7 @@ use Rattle.pieces.specs.Feeding.{feedBytes}
 use Rattle.paper.specs.Refusals.{longestLine, replyRoom}
 use Rattle.session.specs.Serving.{sessionWith, carrying}
 use Rattle.session.proofs.Whole.{Call, served}
-use Rattle.knotcinder.specs.Loop.{Reached}
+use Rattle.knotcinder.specs.Loop.{ReachedByLines}
 use Rattle.knotcinder.proofs.Laws.{came-next, through, stopped, standing-reached, reached-next, due-served}
 use Rattle.knotcinder.proofs.serve_piece.Statement.{statement}
 use Rattle.knotcinder.proofs.serve_piece.Tie as tie
@@ -25,7 +25,7 @@ Inv-loop piece line₀ held kept₀ out₀ registers₀ at₀ n₀ line kept out
     × (replyRoom ≤ length out)
     × (n ≤ length line)
     × (sessionWith registers line n ≡ feedBytes carrying (take at piece) (sessionWith registers₀ line₀ held))
-    × Reached registers
+    × ReachedByLines registers
 
 abbrev μ-loop : tie.MeasureT-loop
 μ-loop piece line₀ held kept₀ out₀ registers₀ at₀ n₀ line kept out registers at n = length piece - at
