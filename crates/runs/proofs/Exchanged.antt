@@ -112,7 +112,7 @@ module _ {D : List ℕ → Dig} {w : World} {T : Tree} (g : Ground D w T) (A B :
             left = z;
             right = x;
             theirs = inr (of-one B n, of-one A m);
-            front = front f;
+            in-front = front f;
             between = between f;
             back = back f;
             was = ap leaves (sym e) ∙ leaves-two f z x;
@@ -123,7 +123,7 @@ module _ {D : List ℕ → Dig} {w : World} {T : Tree} (g : Ground D w T) (A B :
             left = x;
             right = z;
             theirs = inl (of-one A m, of-one B n);
-            front = front f;
+            in-front = front f;
             between = between f;
             back = back f;
             was = ap leaves (sym e) ∙ leaves-two f x z;

@@ -47,11 +47,11 @@ pub record Exchanged (A B : ℕ) (before after : List TreeLeaf) : Type 0 where
   pub left : TreeLeaf
   pub right : TreeLeaf
   pub theirs : (IsLeafOf A left × IsLeafOf B right) ⊎ (IsLeafOf B left × IsLeafOf A right)
-  pub front : List TreeLeaf
+  pub in-front : List TreeLeaf
   pub between : List TreeLeaf
   pub back : List TreeLeaf
-  pub was : before ≡ front ++ (left ∷ (between ++ (right ∷ back)))
-  pub becomes : after ≡ front ++ (right ∷ (between ++ (left ∷ back)))
+  pub was : before ≡ in-front ++ (left ∷ (between ++ (right ∷ back)))
+  pub becomes : after ≡ in-front ++ (right ∷ (between ++ (left ∷ back)))
 
 -- "to swap the places of two listed items". Of the other wishes the list says it all: where their leaves stand is free
 abbrev pub LeavesMoved : Wish → (before after : Tree) → Type 0

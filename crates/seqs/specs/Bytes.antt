@@ -128,13 +128,13 @@ unfolding digestAt
 digest-at-length s at = padded-length s at 32
 
 -- one of them
-zeros : (n i : ℕ) → _≡_ {A = ℕ} (getD (replicate n 0) i 0) 0
-zeros zero i = refl
-zeros (suc n) zero = refl
-zeros (suc n) (suc i) = zeros n i
+zero-at : (n i : ℕ) → _≡_ {A = ℕ} (getD (replicate n 0) i 0) 0
+zero-at zero i = refl
+zero-at (suc n) zero = refl
+zero-at (suc n) (suc i) = zero-at n i
 
 past : (l : List ℕ) (n i : ℕ) → getD (l ++ replicate n 0) i 0 ≡ getD l i 0
-past [] n i = zeros n i
+past [] n i = zero-at n i
 past (b ∷ l) n zero = refl
 past (b ∷ l) n (suc i) = past l n i
 
