@@ -17,7 +17,7 @@ use Rattle.lines.specs.Laws.{ReadIsFirst, WriteIsFirst}
 use Rattle.lines.specs.RoundTrip.{WrittenReads, ReadWrites, OneLine}
 use Rattle.module.specs.declared.Answered.{Answered}
 use Rattle.module.specs.declared.Replied.{Replied}
-use Rattle.module.specs.Answering.{answered, answeredOf}
+use Rattle.module.specs.Answering.{answeredWith, answeredOf}
 use Rattle.module.specs.Laws.{Promised, RefusalIsFirst, RefusalKeeps, OnlyTheReply, ReplyFits, UnderTheCeiling, SecretOpens, RefusingBreaks, OlderMemorandum}
 use Rattle.runs.specs.Run.{LineTurn, after}
 use Rattle.runs.specs.Endings.{Ending}
@@ -124,7 +124,7 @@ MeetsByValue m = (s : Registers) (line space : List ℕ) → Promised s line spa
 
 abbrev pub MeetsInPlace : InPlace → Type 0
 MeetsInPlace m = (s : Registers) (line space : List ℕ)
-    → Promised s line space (answered (m s line space .0) (m s line space .1)) (m s line space .2)
+    → Promised s line space (answeredWith (m s line space .0) (m s line space .1)) (m s line space .2)
 
 -- what was handed over at a call: a line and a reply space
 pub record CallInput : Type 0 where
@@ -144,7 +144,7 @@ callsByValue m k (i ∷ is) = callByValue m (registersBehindCalls k (callsByValu
 abbrev pub callInPlace : InPlace → Registers → CallInput → Call
 callInPlace m s i =
     let o = m s (i .line) (i .space) in
-    record { line = i .line; space = i .space; came = answered (o .0) (o .1); left = o .2 }
+    record { line = i .line; space = i .space; came = answeredWith (o .0) (o .1); left = o .2 }
 
 abbrev pub callsInPlace : InPlace → (secret : Dig) → List CallInput → List Call
 callsInPlace m k [] = []

@@ -17,5 +17,5 @@ answeredOf t =
     }
 
 -- what came back where the registers lie, beside those registers
-abbrev pub answered : Registers → Replied → Answered
-answered s o = record { registers = s; refused = o .refused; length = o .length; blocks = o .blocks }
+abbrev pub answeredWith : Registers → Replied → Answered
+answeredWith s o = record { registers = s; refused = o .refused; length = o .length; blocks = o .blocks }

@@ -18,7 +18,7 @@ use Rattle.paper.specs.Collisions.{Collision}
 use Rattle.paper.specs.Older.{Later}
 use Rattle.module.specs.declared.Answered.{Answered}
 use Rattle.module.specs.declared.Replied.{Replied}
-use Rattle.module.specs.Answering.{answered, answeredOf}
+use Rattle.module.specs.Answering.{answeredWith, answeredOf}
 
 -- what `answer` promises: of what it returns, and of the reply space afterwards
 pub record Promised (s : Registers) (line space : List ℕ) (o : Answered) (after : List ℕ) : Type 0 where
@@ -59,7 +59,7 @@ OneOutcome = (s : Registers) (line space after after′ : List ℕ) (o o′ : An
 -- the same where the registers lie: what they hold afterwards, what comes back, and the reply space
 abbrev pub OneOutcomeHere : Type 0
 OneOutcomeHere = (s t t′ : Registers) (line space after after′ : List ℕ) (o o′ : Replied)
-    → Promised s line space (answered t o) after → Promised s line space (answered t′ o′) after′
+    → Promised s line space (answeredWith t o) after → Promised s line space (answeredWith t′ o′) after′
     → (t ≡ t′) × (o ≡ o′) × (after ≡ after′)
 
 -- "Each request's count has a stated ceiling"

@@ -9,7 +9,7 @@ ghost use Rattle.sha256.specs.Hash.{sha256};
 ghost use Rattle.paper.specs.Refusals.{replyRoom};
 ghost use Rattle.paper.specs.Module.{answerTo};
 ghost use Rattle.replies.specs.Outcomes.{outcomeOf};
-ghost use Rattle.module.specs.Answering.{answered};
+ghost use Rattle.module.specs.Answering.{answeredWith};
 ghost use Rattle.module.specs.Laws.{Promised};
 ghost use Rattle.module.specs.Work.{refusalIn};
 
@@ -80,7 +80,7 @@ pub fn answer(r: Registers, line: &[u8], reply: &mut [u8]) -> Answered
 // One line on registers where they lie: the answer by value, and what it gave stored.
 pub fn answer_here(regs: &mut Registers, line: &[u8], reply: &mut [u8]) -> Replied
     ensures { λ o. ⌜ Promised (now (regs .entry)) (now (line .entry)) (now (reply .entry))
-        (answered (now (regs .exit)) o) (now (reply .exit)) ⌝ }
+        (answeredWith (now (regs .exit)) o) (now (reply .exit)) ⌝ }
 {
     let a = answer(*regs, line, reply);
     *regs = a.registers;

@@ -52,7 +52,7 @@ use Rattle.paper.proofs.Registers as T
 use Rattle.paper.proofs.Registers.Laws as T′
 use Rattle.module.specs.declared.Answered.{Answered}
 use Rattle.module.specs.declared.Replied.{Replied}
-use Rattle.module.specs.Answering.{answered}
+use Rattle.module.specs.Answering.{answeredWith}
 use Rattle.module.specs.Laws.{Promised}
 use Rattle.module.proofs.Answered as O
 use Rattle.module.proofs.Answered.Laws as O′
@@ -91,8 +91,8 @@ out = LL.val R.the-type R′.the-laws
 
 -- the facts of the registers left in the local and of what was said are those of what is returned
 given-back : (r : Registers) (s : Replied) → Is T.the-row r (val r ∷ []) → Is R.the-row s (out s ∷ [])
-    → Is O.the-row (answered r s) (ret (answered r s) ∷ [])
-given-back r s was is = LL.owes O.the-type O′.the-laws (answered r s) (was, LL.owed R.the-type R′.the-laws s (out s ∷ []) is)
+    → Is O.the-row (answeredWith r s) (ret (answeredWith r s) ∷ [])
+given-back r s was is = LL.owes O.the-type O′.the-laws (answeredWith r s) (was, LL.owed R.the-type R′.the-laws s (out s ∷ []) is)
 
 module _ {M : Type 1} (𝓤 : URA M) (H : Heap 𝓤) (A : Atoms 𝓤) (at-mem : Memory → SProp 𝓤) (run : Routine → Fun 𝓤) where
   -- the contract that the proof cites, and the function's own
@@ -224,8 +224,8 @@ module _ {M : Type 1} (𝓤 : URA M) (H : Heap 𝓤) (A : Atoms 𝓤) (at-mem : 
             ⊛ raw (ensured 𝓤 H A g.ended (g.clauses 𝓤 H A at-mem run) (κ, (μ, (ν, tt))) (lent κ l₄ γ) tt s)))) (id⊢ 𝓤 _) $
             await ! tt $ pick ! (λ s. split ! $ move ! (1 ∷ []) $
             use1 W (some (λ (zs : Registers × (Unit {0} × (List ℕ × Unit {0}))). ‵ (lasts g.ended (κ, (μ, (ν, tt))) (lent κ l₄ γ) zs)
-            ⊛ raw (fact 𝓤 (Says (answered (zs .0) s) (zs .1 .1 .0))))) (id⊢ 𝓤 _) $
-            pick ! (λ zs. split ! $ move ! (1 ∷ []) $ heard ! (Says (answered (zs .0) s) (zs .1 .1 .0)) (λ e.
+            ⊛ raw (fact 𝓤 (Says (answeredWith (zs .0) s) (zs .1 .1 .0))))) (id⊢ 𝓤 _) $
+            pick ! (λ zs. split ! $ move ! (1 ∷ []) $ heard ! (Says (answeredWith (zs .0) s) (zs .1 .1 .0)) (λ e.
             fsplit ! $ move ! (1 ∷ []) $ fsplit ! $ move ! (1 ∷ []) $ fsplit ! $ fsplit ! $ move ! (1 ∷ []) $ feqL ! (λ len.
             -- [space's last list; true; true; the registers' last value; the tokens and what was said; the lender's part; _9; …]
             move ! (4 ∷ []) $ split ! $ move ! (1 ∷ []) $ peeks ! R.the-row (Is R.the-row) (shows 𝓤 H A R.the-row) s (v ∷ []) (λ is.
@@ -248,14 +248,15 @@ module _ {M : Type 1} (𝓤 : URA M) (H : Heap 𝓤) (A : Atoms 𝓤) (at-mem : 
             (and-then ! (load ! (from ! (fld ! {d = 8} refl (stop !))) (look-in ! 13 (sub ! 1 {d = 8} refl (whole !))))
             (and-then ! (load ! (from ! (fld ! {d = 16} refl (stop !))) (look-in ! 13 (sub ! 2 {d = 16} refl (whole !)))) (no-more !))))))
             (from ! (stop !))
-            (init ! 22 refl (LL.lawful O.the-type O′.the-laws 𝓤 H A W .typed (answered (zs .0) s) _ (given-back (zs .0) s left is′) .0)) $
+            (init ! 22 refl (LL.lawful O.the-type O′.the-laws 𝓤 H A W .typed (answeredWith (zs .0) s) _
+            (given-back (zs .0) s left is′) .0)) $
             returns ! (look ! 22 refl) $ forget ! 0 refl $ forget ! 5 refl $ forget ! 7 refl $ forget ! 9 refl $ forget ! 11 refl $
             forget ! 13 refl $ forget ! 16 refl $ forget ! 18 refl $ forget ! 20 refl $ forget ! 22 refl $
             move ! (22 ∷ 23 ∷ []) $ free1 ! $ move ! (20 ∷ 21 ∷ []) $ free1 ! $ move ! (18 ∷ 19 ∷ []) $ free1 ! $
             move ! (16 ∷ 17 ∷ []) $ free1 ! $ move ! (0 ∷ 15 ∷ []) $ free1 ! $ move ! (12 ∷ 13 ∷ []) $ free1 ! $
             move ! (10 ∷ 11 ∷ []) $ free1 ! $ move ! (8 ∷ 9 ∷ []) $ free1 ! $ move ! (6 ∷ 7 ∷ []) $ free1 ! $
             move ! (4 ∷ 5 ∷ []) $ free1 ! $ free0 ! $ keep ! (0 ∷ 1 ∷ []) $
-            by ! (exits (answered (zs .0) s) (zs .1 .1 .0) e len (given-back (zs .0) s left is′)))))))))))))))))))))
+            by ! (exits (answeredWith (zs .0) s) (zs .1 .1 .0) e len (given-back (zs .0) s left is′)))))))))))))))))))))
 
     goes : AllGo 𝓤 H A W 2 (f.signature .params) (f.ended .kept) stayed
     goes = (
