@@ -1,4 +1,4 @@
-"""Document 01 by hand: how a tablet computes, and what a module owes it.
+"""The protocol by hand, from docs/PROTOCOL.md: how a tablet computes, and what a module owes it.
 
 The strings, the parent H, the memoranda and the sixteen kinds of request, straight from the tables in docs/PROTOCOL.md.
 SHA-256 is Python's own, so nothing here comes from either of the project's two programs. A tablet knows everything

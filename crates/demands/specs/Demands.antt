@@ -1,6 +1,6 @@
--- What is promised, on one page: the mission's three demands, each a statement, clause by clause. `proofs/Demands` shows all three.
+-- What is promised, on one page: the three demands of docs/PROTOCOL.md, section 8, clause by clause. `proofs/Demands` shows all three.
 -- They speak of ANY function that meets the contract of `module::answer` or of `module::answer_here`, whatever its code: of what it was
--- given and what came back. The contract is `Promised`; the words in it are document 01's, as `paper` defines them.
+-- given and what came back. The contract is `Promised`; the words in it are the paper's, as the crate `paper` defines them.
 use mathlib.Core.Path.{_≡_}
 use mathlib.Core.Bool.{true}
 use mathlib.Core.List.{List, [], _∷_, _++_}
@@ -52,7 +52,7 @@ turnsOfCalls (c ∷ cs) = record { line = c .line; space = length (c .space) } �
 
 -- ── the first demand ──
 
--- "Any line, however damaged, gets one reply": the space then begins with one line, of some bytes in hexadecimal, with its 0A; or,
+-- §8.1.1, one reply for any line: the space then begins with one line, of some bytes in hexadecimal, with its 0A; or,
 -- where it has less than 195 bytes, 15 comes back and nothing was written
 abbrev pub OneReply : Type 0
 OneReply = (s : Registers) (line space after : List ℕ) (o : Answered) → Promised s line space o after
@@ -61,12 +61,12 @@ OneReply = (s : Registers) (line space after : List ℕ) (o : Answered) → Prom
 
 pub record FirstDemand : Type 0 where
   pub one-reply : OneReply
-  -- "Each refusal is one of the fifteen .. given exactly when its condition is the first to apply"
+  -- §8.1.3: a refusal is given exactly where it is the first that applies
   pub first-to-apply : RefusalIsFirst
   -- of the line's reader and the frame's writer alike, in their order
   pub reading : ReadIsFirst
   pub writing : WriteIsFirst
-  -- "After it root, counter and secret are unchanged, and only the reply's own bytes are written"
+  -- §8.1.4: a refusal changes no register, and only the reply's own bytes are written
   pub refusal-keeps : RefusalKeeps
   pub only-the-reply : OnlyTheReply
   pub reply-fits : ReplyFits
@@ -76,7 +76,7 @@ pub record FirstDemand : Type 0 where
 
 -- ── the second demand ──
 
--- "Each reply, new root, memorandum and block count is the one" that the definitions give: of `answerTo` at SHA-256
+-- §8.2.1: reply, new root, memorandum and count are those of the definitions, `answerTo` at SHA-256
 abbrev pub AsDefined : Type 0
 AsDefined = (s : Registers) (line space after : List ℕ) (o : Answered) → Promised s line space o after
     → (let t = answerTo sha256 s line (length space) in
@@ -86,7 +86,7 @@ pub record SecondDemand : Type 0 where
   pub as-defined : AsDefined
   pub under-the-ceiling : UnderTheCeiling
   pub older-memorandum : OlderMemorandum
-  -- "Each frame has one line; reading a written frame and writing a read line both return the original"
+  -- §8.2.2: lines and frames round-trip
   pub one-line : OneLine
   pub written-reads : WrittenReads
   pub read-writes : ReadWrites
@@ -100,14 +100,14 @@ RepliedAlong k (c ∷ cs) =
     let told = answerTo sha256 (after sha256 k (turnsOfCalls cs) .registers) (c .line) (length (c .space)) in
     (c .came ≡ answeredOf told) × (c .left ≡ spaceAfter told (c .space)) × RepliedAlong k cs
 
--- "Start from an unopened module and feed any lines. After each ..", until something one can show
+-- §8.3.1 to §8.3.7: after any lines from an unopened module, until something one can show
 pub record HoldsAfter (k : Dig) (cs : List Call) : Type 0 where
   -- the registers are those of the run of these lines, and so are the replies
   pub registers : registersBehindCalls k cs ≡ after sha256 k (turnsOfCalls cs) .registers
   pub replies : RepliedAlong k cs
   -- the root is that of a tree that holds just the replayed list, the counter counts, every answer was true and every change legal
   pub safe : Ending sha256 k (turnsOfCalls cs) ⊎ SafeRun sha256 k (turnsOfCalls cs)
-  -- "once open and while the counter is below its top", every legal change and every question has honest lines
+  -- §8.3.8: while open and below the top, every legal wish has honest lines
   pub live : registersBehindCalls k cs .opened ≡ true → registersBehindCalls k cs .counter .0 < top
       → Ending sha256 k (turnsOfCalls cs) ⊎ LiveAt sha256 (after sha256 k (turnsOfCalls cs))
 

@@ -29,6 +29,6 @@ pub record Spoken (s : Says) (t : Memo) : Type 0 where
 unfoldable pub madeOf : Says → (secret : Dig) → Digest
 madeOf s k = record { bytes = sha256 (take (s .length) (s .bytes) ++ k); blocks = blocks (s .length + 32) }
 
--- "two outcomes allowed by the same statement are equal", for u1, v1, u2 and ei
+-- §8.4.2: two outcomes that the contract of u1, v1, u2 or ei allows are equal
 abbrev pub OneSaying : Type 0
 OneSaying = (s s′ : Says) (t : Memo) → Spoken s t → Spoken s′ t → s ≡ s′

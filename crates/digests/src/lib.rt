@@ -1,4 +1,5 @@
-// Document 01's digests: leaf, parent, record hash and the memoranda, each with the count of blocks that it took.
+// The digests of docs/PROTOCOL.md, section 3: leaf, parent, record hash and the memoranda, each with the count of blocks
+// that it took (§10.1.1).
 use paper::Item;
 use paper::Record;
 ghost use mathlib.Core.Path.{_≡_};

@@ -103,7 +103,7 @@ pub fn put(buffer: &mut [u8], at: usize, source: &[u8])
 // Whether two digests are the same. The module compares memoranda by this, for a tablet that may try without limit. A
 // comparison that ended at the first byte that differs would tell it, by the time it takes, how far a guess is right, and
 // a memorandum could be found byte by byte. So there is no early exit: the bits that differ are gathered from all 32
-// bytes, and looked at once, at the end. docs/PROMISES.md, "Time", says what becomes of that in the compiled program.
+// bytes, and looked at once, at the end. docs/EXCEPTIONS.md, "Time", says what becomes of that in the compiled program.
 pub fn same_digest(a: [u8; 32], b: [u8; 32]) -> bool
     ensures { λ r. ⌜ r ≡ same a b ⌝ }
 {

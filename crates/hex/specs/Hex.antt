@@ -1,12 +1,11 @@
--- Hexadecimal. Document 01, "Lines": "A line is its bytes in lower-case hexadecimal, two digits each,
--- ended by byte 0A."
+-- Hexadecimal (§4.1.2): two lower-case digits to a byte, and a line ended by the byte 0A.
 use mathlib.Core.Bool.{Bool, true}
 use mathlib.Core.List.{List, [], _∷_, _++_}
 use Prim.Native.Nat.{ℕ, _+_, _-_, _*_, _/_, _%_}
 use lib.Dec.{leb}
 use Rattle.seqs.specs.Choose.{pick, both}
 
--- "0-9, a-f": the bytes 48 to 57 and 97 to 102
+-- the digits 0 to 9 and a to f: the bytes 48 to 57 and 97 to 102
 unfoldable pub isDigit : ℕ → Bool
 isDigit c = pick (both (leb 48 c) (leb c 57)) true (both (leb 97 c) (leb c 102))
 

@@ -1,4 +1,4 @@
-// Bytes from hexadecimal digits and back: document 01's lower-case digits, two to a byte, and 0A.
+// Bytes from hexadecimal digits and back: lower-case digits, two to a byte, and 0A (§4.1.2).
 ghost use mathlib.Core.Path.{_≡_};
 ghost use mathlib.Core.List.{_++_};
 ghost use Prim.Native.Nat.{_+_, _*_, _/_, _%_, _≤_, _<_};

@@ -18,7 +18,7 @@ ghost use Rattle.replies.specs.Outcomes.{outcomeOf, outcomeFor};
 ghost use Rattle.places.specs.Places.{bytesAt};
 ghost use Rattle.kernel.specs.Fitting.{levelsIn, pathRequestIn, answerFitting};
 
-// The n siblings of a path over the front of the array.
+// The n siblings of a path over the front of the array, by value (§10.1.4).
 fn siblings(f: &[u8], n: usize) -> [[u8; 32]; MOST_SIBLINGS]
     requires { ⌜ n ≤ 64 ⌝ }
     ensures { λ r. ⌜ take n r ≡ digestsIn n (bytesAt (now (f .entry)) 74 (32 * n)) ⌝ }

@@ -1,5 +1,5 @@
 -- What follows from the contracts of `read_line` and `write_frame` alone, as statements: each refusal is the first of
--- document 01's order that applies. `proofs/Follows` shows them.
+-- the paper's order that applies. `proofs/Follows` shows them.
 use mathlib.Core.Path.{_≡_}
 use mathlib.Core.List.{List}
 use mathlib.Core.Logic.{_⊎_}
@@ -32,13 +32,12 @@ pub record FirstOfFour {A : Type 0} (accepts : A) (refuses : ℕ → A) (cs : Li
   pub refused-when : (n : ℕ) → FirstToApply lineOrder cs n → r ≡ refuses n
   pub accepted-when : Passed lineOrder cs → r ≡ accepts
 
--- "Reading a line into frame space refuses 1, 2, 3 as below, then 15 if the space is shorter than the frame"
+-- §4.2.1: reading refuses by the first of 1, 2, 3 and 15
 abbrev pub ReadIsFirst : Type 0
 ReadIsFirst = (line space after : List ℕ) (r : Read) → ReadPromised line space r after
     → FirstOfFour (Frame (kindOf (bytesOf line)) (length (bytesOf line))) (λ n. Refused n) (readChecks line (length space)) r
 
--- "Writing a frame refuses, in this order ..: empty or longer than that 1, then 2 and 3 as below, then 15 if the space is
--- shorter than the line"
+-- §4.3.1: writing refuses by the first of 1, 2, 3 and 15
 abbrev pub WriteIsFirst : Type 0
 WriteIsFirst = (frame space after : List ℕ) (r : Wrote) → WritePromised frame space r after
     → FirstOfFour (Line (2 * length frame + 1)) (λ n. Rejected n) (writeChecks frame (length space)) r

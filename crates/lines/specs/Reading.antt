@@ -1,5 +1,5 @@
--- Document 01, "Lines": what reading a line into a frame space answers and leaves, and what writing a frame as a
--- line does. The refusals are `paper`'s.
+-- What reading a line into a frame space answers and leaves, and what writing a frame as a line does (docs/PROTOCOL.md, 4.2 and
+-- 4.3). The refusals are `paper`'s.
 use mathlib.Core.List.{List, _++_}
 use Prim.Native.Nat.{ℕ, _+_, _*_}
 use lib.Dec.{eqb, leb}
@@ -13,18 +13,19 @@ use Rattle.lines.specs.declared.Read.the-variants.{Frame, Refused}
 use Rattle.lines.specs.declared.Wrote.{Wrote}
 use Rattle.lines.specs.declared.Wrote.the-variants.{Line, Rejected}
 
--- "kind and length, or a refusal number; bytes stay in the lent buffer"
+-- §4.2.2, §4.2.3: the kind and the length, or a refusal's number; the bytes stay in the lent buffer (§10.1.3)
 unfoldable pub readOf : (line : List ℕ) (space : ℕ) → Read
 readOf line space =
     let n = readRefusal line space in
     pick (eqb n 0) (Frame (kindOf (bytesOf line)) (length (bytesOf line))) (Refused n)
 
--- the frame space then: "writing nothing" where refused; "when accepted, each writes its own bytes only"
+-- the frame space then: nothing is written where it is refused (§4.2.3), and else the frame and nothing more (§4.2.2)
 abbrev pub frameAfter : Read → (line space : List ℕ) → List ℕ
 frameAfter (Frame k n) line d = bytesOf line ++ drop n d
 frameAfter (Refused n) line d = d
 
--- the length of the line written, with its 0A, or a refusal number
+-- §4.3.2, §4.3.3: the length of the line written, with its 0A, or a refusal's number; then the line's space, nothing written where it is
+-- refused
 unfoldable pub wroteOf : (frame : List ℕ) (space : ℕ) → Wrote
 wroteOf f space = let n = writeRefusal f space in pick (eqb n 0) (Line (2 * length f + 1)) (Rejected n)
 

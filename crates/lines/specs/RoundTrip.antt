@@ -1,5 +1,5 @@
--- The mission's demand 2: "Each frame has one line; reading a written frame and writing a read line both return the
--- original." As statements over what `read_line` and `write_frame` promise; `proofs/RoundTrip` shows all three.
+-- Lines and frames both ways (§4.4.1 to §4.4.3, §8.2.2), as statements over what `read_line` and `write_frame` promise;
+-- `proofs/RoundTrip` shows all three.
 use mathlib.Core.Path.{_≡_}
 use mathlib.Core.List.{List, [], _∷_, _++_}
 use Prim.Native.Nat.{ℕ, _+_, _≤_}

@@ -1,4 +1,4 @@
-// Document 01's lines: read into frames, written from them, and the lines of replies.
+// Lines: read into frames, written from them, and the lines of replies (docs/PROTOCOL.md, section 4).
 use paper::BEFORE_SIBLINGS;
 use paper::LONGEST_FRAME;
 use paper::LONGEST_LINE;

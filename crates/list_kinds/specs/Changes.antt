@@ -12,7 +12,7 @@ use Rattle.places.specs.Places.{bytesAt, itemIn, digestIn}
 use Rattle.list_kinds.specs.declared.Change.{Change}
 use Rattle.list_kinds.specs.declared.Change.the-variants.{Set, Clear}
 
--- "The new record is [c+1, v2, v3, v4], or empty for clear."
+-- §5.2.10: the new record has the raised counter as its revision, or is empty for clear
 abbrev pub recordAfter : Change → (raised : ℕ) → Record
 recordAfter (Set v) n = record { revision = record { 0 = n }; mass = v .mass; offset = v .offset; rigging = v .rigging }
 recordAfter Clear n = clearedRecord

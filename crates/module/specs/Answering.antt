@@ -6,7 +6,7 @@ use Rattle.paper.specs.Module.{Told, replyLine}
 use Rattle.module.specs.declared.Answered.{Answered}
 use Rattle.module.specs.declared.Replied.{Replied}
 
--- the registers, the number of a refusal or 0, the length of the reply's line, and the blocks worked
+-- the registers, the number of a refusal or 0, the length of the reply's line, and the blocks worked (§3.7.1, §10.1.1)
 abbrev pub answeredOf : Told → Answered
 answeredOf t =
     record {
@@ -16,6 +16,6 @@ answeredOf t =
       blocks = cost (t .formed);
     }
 
--- what came back where the registers lie, beside those registers
+-- what came back where the registers lie, beside those registers (§2.2.1, §10.1.6)
 abbrev pub answeredWith : Registers → Replied → Answered
 answeredWith s o = record { registers = s; refused = o .refused; length = o .length; blocks = o .blocks }

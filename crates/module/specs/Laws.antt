@@ -20,18 +20,17 @@ use Rattle.module.specs.declared.Answered.{Answered}
 use Rattle.module.specs.declared.Replied.{Replied}
 use Rattle.module.specs.Answering.{answeredWith, answeredOf}
 
--- what `answer` promises: of what it returns, and of the reply space afterwards
+-- what `answer` promises, every byte as the definitions have it (§8.2.1): of what it returns, and of the reply space afterwards
 pub record Promised (s : Registers) (line space : List ℕ) (o : Answered) (after : List ℕ) : Type 0 where
   pub returned : o ≡ answeredOf (answerTo sha256 s line (length space))
   pub left : after ≡ spaceAfter (answerTo sha256 s line (length space)) space
 
--- demand 1: "After it root, counter and secret are unchanged", and so is whether the module is open
+-- §6.1.2, §8.1.4: a refusal leaves all registers as they were
 abbrev pub RefusalKeeps : Type 0
 RefusalKeeps = (s : Registers) (line space after : List ℕ) (o : Answered) → Promised s line space o after
     → (o .refused ≡ 0 → ⊥) → o .registers ≡ s
 
--- demand 1: "Each refusal is one of the fifteen .. given exactly when its condition is the first to apply", and 0 comes
--- back exactly when none applies
+-- §6.1.1, §8.1.3: a refusal is given exactly where it is the first that applies, and 0 comes back exactly where none does
 pub record FirstGiven (cs : List Check) (o : Answered) : Type 0 where
   pub given : (Passed order cs × (o .refused ≡ 0)) ⊎ FirstToApply order cs (o .refused)
   pub refused-when : (n : ℕ) → FirstToApply order cs n → o .refused ≡ n
@@ -51,7 +50,7 @@ abbrev pub ReplyFits : Type 0
 ReplyFits = (s : Registers) (line space after : List ℕ) (o : Answered) → Promised s line space o after
     → (o .length ≤ replyRoom) × (o .length ≤ length space) × (length after ≡ length space)
 
--- "two outcomes allowed by the same statement are equal"
+-- §8.4.2: two outcomes that the contract allows are equal
 abbrev pub OneOutcome : Type 0
 OneOutcome = (s : Registers) (line space after after′ : List ℕ) (o o′ : Answered)
     → Promised s line space o after → Promised s line space o′ after′ → (o ≡ o′) × (after ≡ after′)
@@ -62,13 +61,13 @@ OneOutcomeHere = (s t t′ : Registers) (line space after after′ : List ℕ) (
     → Promised s line space (answeredWith t o) after → Promised s line space (answeredWith t′ o′) after′
     → (t ≡ t′) × (o ≡ o′) × (after ≡ after′)
 
--- "Each request's count has a stated ceiling"
+-- §3.7.8: no request costs more than its ceiling
 abbrev pub UnderTheCeiling : Type 0
 UnderTheCeiling = (s : Registers) (line space after : List ℕ) (o : Answered) → Promised s line space o after
     → o .blocks ≤ ceiling (requestOf (bytesOf line))
 
--- "A memorandum made for a set at an older c gets 8" in any later set that carries it, or two strings formed then and now have
--- one digest
+-- §5.2.12: a memorandum made for a set at an earlier counter gets 8 in any later set that carries it, or two strings formed then and
+-- now have one digest
 abbrev pub OlderMemorandum : Type 0
 OlderMemorandum = (s₀ s : Registers) (line₀ line space₀ space after : List ℕ) (o : Answered)
     → Later sha256 s₀ s line₀ line (length space₀) (length space) → Promised s line space o after
@@ -83,7 +82,7 @@ SecretOpens = (s : Registers) (secret space after : List ℕ) (o : Answered) →
     → Promised s (digitsOf (0x10 ∷ secret)) space o after
     → (o .refused ≡ 0) × (o .registers ≡ unlocked s secret)
 
--- "a module that refuses everything" keeps no such promise: whatever its registers, open or not, some line is accepted
+-- §8.4.3: a module that refuses everything keeps no such promise, since whatever its registers, open or not, some line is accepted
 abbrev pub RefusingBreaks : Type 0
 RefusingBreaks = (m : Registers → (line space : List ℕ) → Answered × List ℕ)
     → ((s : Registers) (line space : List ℕ) → Promised s line space (m s line space .0) (m s line space .1))

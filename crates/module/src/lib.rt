@@ -40,7 +40,7 @@ fn number(got: Read) -> u8
     }
 }
 
-// A line that has room for its reply.
+// A line that has room for its reply. The reader's answer is taken apart by `let .. else` (§10.1.3).
 fn answer_line(r: Registers, line: &[u8]) -> Outcome
     ensures { λ o. ⌜ o ≡ outcomeOf (answerTo sha256 r (now (line .entry)) replyRoom) ⌝ }
 {
@@ -77,7 +77,7 @@ pub fn answer(r: Registers, line: &[u8], reply: &mut [u8]) -> Answered
     }
 }
 
-// One line on registers where they lie: the answer by value, and what it gave stored.
+// One line on registers where they lie: the answer by value, and what it gave stored (§2.2.1).
 pub fn answer_here(regs: &mut Registers, line: &[u8], reply: &mut [u8]) -> Replied
     ensures { λ o. ⌜ Promised (now (regs .entry)) (now (line .entry)) (now (reply .entry))
         (answeredWith (now (regs .exit)) o) (now (reply .exit)) ⌝ }

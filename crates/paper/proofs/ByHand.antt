@@ -1,4 +1,4 @@
--- Document 01's numbers to check by hand, from the definitions: each row computes.
+-- The paper's numbers to check by hand, from the definitions: each row computes.
 use mathlib.Core.Path.{_≡_, refl, _∙_}
 use mathlib.Core.Bool.{Bool, true, false, true≢false}
 use mathlib.Core.List.{List, [], _∷_, _++_}

@@ -1,4 +1,4 @@
--- Document 01's shortcuts are refused: each by the check that the shortcut leaves out.
+-- The shortcuts that look right are refused: each by the check that the shortcut leaves out.
 use mathlib.Core.Path.{_≡_, refl, sym, subst, _∙_}
 use mathlib.Core.Bool.{Bool, true, false, true≢false}
 use mathlib.Core.List.{List, [], _∷_, _++_, List·Memᴰ, List·Memᴰ·head, List·Memᴰ·tail, List·Memᴰ·append-cases, Memᴰ·append-left, Memᴰ·append-right}

@@ -1,5 +1,5 @@
--- Document 01, the column "answers" of its table of kinds: the reply, the new registers, the strings that the
--- answer forms, and what the line does beyond its reply ("Replay").
+-- The column "answers" of the table of kinds (§5.1.1 to §5.1.16): the reply, the new registers, the strings that the answer
+-- forms (§3.7.6), and what the line does beyond its reply (docs/PROTOCOL.md, section 7).
 use mathlib.Core.Bool.{true}
 use mathlib.Core.List.{List, [], _∷_, _++_}
 use Prim.Native.Nat.{ℕ, _+_}
@@ -18,8 +18,8 @@ use Rattle.paper.specs.Refusals.{nextRecord, clearedRecord}
 
 -- ── what a line does beyond its reply ──
 
--- what an issued memorandum stands for: "first adds an empty item; place removes one; swap does nothing; turn
--- does the reverse of what its memorandum stands for; chain does both in order"
+-- what an issued memorandum stands for: no change of the list (§7.2.3), an item more (§7.2.1) or less (§7.2.2), the reverse of
+-- what another stands for (§7.2.4), or what two stand for, in order (§7.2.5)
 pub data ListChange : Type 0 where
   nothing : ListChange
   adds : (A : ℕ) → ListChange
@@ -27,8 +27,7 @@ pub data ListChange : Type 0 where
   reverses : (m : Dig) → ListChange
   bothInOrder : (m1 m2 : Dig) → ListChange
 
--- nothing; "a line issues the memorandum its reply lists"; adopt does what its memorandum stands for; "set and
--- clear change one record"
+-- what an accepted line does: nothing (§7.2.8), issue a memorandum (§7.1.1), change the list by one (§7.2.6), change a record (§7.2.7)
 pub data Effect : Type 0 where
   none′ : Effect
   issues : Memo → ListChange → Effect
@@ -37,14 +36,14 @@ pub data Effect : Type 0 where
 
 -- ── findings ──
 
--- "exactly one of three findings": A with its record, listed with none (q = A), or q in the gap
+-- §5.2.14, one of three findings: A with its record, A listed with none, or q in the gap
 unfoldable pub findingOf : (q A A′ : ℕ) → Record → Finding
 findingOf q A A′ r =
     pick (eqb q A)
     (pick (blank r) (Listed (record { 0 = A })) (Recorded (record { 0 = A }) r))
     (Gap (record { 0 = A }) (record { 0 = A′ }))
 
--- "the first number one byte: 1, A, record; 2, A (listed, no record; q = A); 3, A, A' (q in the gap)"
+-- §5.2.14, §10.1.7: a finding's bytes, its number in one byte and then its numbers
 abbrev pub findingBytes : Finding → List ℕ
 findingBytes (Recorded A r) = 1 ∷ spread (nums (A .0 ∷ numbers r))
 findingBytes (Listed A) = 2 ∷ spread (nums (A .0 ∷ []))
@@ -74,7 +73,7 @@ withSecret s k = record { root = s .root; counter = s .counter; secret = k; open
 abbrev pub shownOpen : Registers → Registers
 shownOpen s = record { root = s .root; counter = s .counter; secret = s .secret; opened = true }
 
--- another root and the counter raised; the secret handed in
+-- another root and the counter raised (§5.2.11); the secret handed in (§1.2.4)
 abbrev pub raised : Registers → Dig → Registers
 raised s y = countedUp (rooted s y)
 
@@ -89,7 +88,7 @@ pub record AnswerParts : Type 0 where
   pub effect : Effect
 
 module _ (D : List ℕ → Dig) where
-  -- an answer that lists some digests and then the memorandum that it issues
+  -- an answer that lists some digests and then the memorandum that it issues, which is its 32 bytes (§5.2.15)
   abbrev pub answerIssuing : Registers → (shown : List ℕ) (before : List Str) → Memo → ListChange → AnswerParts
   answerIssuing s shown before t c =
       record {

@@ -1,5 +1,5 @@
--- Document 01, "Numbers to check by hand": its starred numbers and some more as one table under one statement,
--- `ByHand`, which `proofs/ByHand` shows from the definitions.
+-- The numbers to check by hand (docs/PROTOCOL.md, 9.1) and some more as one table under one statement, `ByHand`, which
+-- `proofs/ByHand` shows from the definitions.
 use mathlib.Core.Bool.{Bool, true, false}
 use mathlib.Core.Path.{_≡_}
 use mathlib.Core.List.{List, [], _∷_, _++_}
@@ -27,7 +27,7 @@ four a b c d =
       rigging = record { 0 = d };
     }
 
--- a row: what is looked at, and what 01 says of it
+-- a row: what is looked at, and what the paper says of it
 pub data Row : Type 0 where
   gapRow : (A A′ q : ℕ) → (lies : Bool) → Row
   parentRow : (u v : Dig) → (above : Dig) → Row
@@ -49,30 +49,30 @@ RowSays D (constantRow n k) = n ≡ k
 -- the table, for any u
 abbrev pub table : (u : Dig) → List Row
 table u =
-    -- "Gap 432, 562 (001): 500 yes*, 432 no*, 562 no*."
+    -- §9.1.1
     gapRow 432 562 500 true
     ∷ gapRow 432 562 432 false
     ∷ gapRow 432 562 562 false
-    -- "Gap 796, 241: 900 yes*, 100 yes*, 500 no*."
+    -- §9.1.2
     ∷ gapRow 796 241 900 true
     ∷ gapRow 796 241 100 true
     ∷ gapRow 796 241 500 false
-    -- "Gap 241, 241: 5 yes*, 241 no*."
+    -- §9.1.3
     ∷ gapRow 241 241 5 true
     ∷ gapRow 241 241 241 false
-    -- "H(0,0) is 0*; H(u,0) is u*."
+    -- §9.1.4
     ∷ parentRow nought nought nought
     ∷ parentRow u nought u
-    -- "Record [0,0,0,0] hashes to 0*; [0,5,0,0] is malformed*."
+    -- §9.1.5
     ∷ hashRow (four 0 0 0 0) nought
     ∷ malformedRow (four 0 5 0 0) true
-    -- "Blocks: 55 bytes 1*, 56 bytes 2*, 65 bytes 2, 161 bytes 3, 225 bytes 4."
+    -- §9.1.6
     ∷ blocksRow 55 1
     ∷ blocksRow 56 2
     ∷ blocksRow 65 2
     ∷ blocksRow 161 3
     ∷ blocksRow 225 4
-    -- the column "length" of the table of strings
+    -- the lengths of the strings, §3.2.1 to §3.2.7
     ∷ lengthRow (leaf 0 0 u) 49
     ∷ lengthRow (node u u) 65
     ∷ lengthRow (entry (four 0 0 0 0)) 33
@@ -80,11 +80,11 @@ table u =
     ∷ lengthRow (memoString (v1 u u) u) 97
     ∷ lengthRow (memoString (u2 u u u u u u) u) 225
     ∷ lengthRow (memoString (ei u u) u) 97
-    -- "The longest frame has 2,122 bytes, so 4,244 digits."; "c at 2^64 - 1"
+    -- the longest frame and line (§4.1.3), and the top of the counter (§6.2.7)
     ∷ constantRow longestFrame 2122
     ∷ constantRow longestLine 4244
     ∷ constantRow top 18446744073709551615
-    -- "from (5,10) one could insert 20": 20 is not in their gap
+    -- §9.3.1: 20 is not in the gap of 5 and 10
     ∷ gapRow 5 10 20 false
     ∷ []
 
@@ -92,7 +92,7 @@ abbrev pub EveryRow : (D : List ℕ → Dig) → List Row → Type 0
 EveryRow D [] = Unit {0}
 EveryRow D (r ∷ l) = RowSays D r × EveryRow D l
 
--- "A path of 64 may cost 259": it does where no digest carried and no digest formed on the way up is zero, whatever the sides
+-- §9.1.7: a path of 64 costs 259 where no digest carried and none formed on the way up is zero, whatever the sides
 abbrev pub NoneZero : List Dig → Type 0
 NoneZero [] = Unit {0}
 NoneZero (d ∷ l) = (allZero d ≡ false) × NoneZero l
@@ -114,19 +114,19 @@ abbrev pub PathReaches259 : Type 0
 PathReaches259 =
     cost (answer (λ l. ones) (unopened nought) (path ones ones 0 (replicate mostSiblings ones)) .forms) ≡ 259
 
--- "Replies of 194 bytes of space get 15, 195 do.": 195 hold the longest reply's line, with its 0A
+-- §9.1.9, §5.3.3: 195 bytes hold the longest reply's line, with its 0A, and 194 get 15
 pub record SpaceOf195 (D : List ℕ → Dig) (s : Registers) (line : List ℕ) : Type 0 where
   pub too-small : (space : ℕ) → space ≤ 194 → answerTo D s line space .refusal ≡ 15
   pub enough : (space : ℕ) → 195 ≤ space → answerTo D s line space .refusal ≡ 15 → ⊥
   pub holds : (space : ℕ) → length (replyLine (answerTo D s line space)) ≤ 195
 
--- "n = 65 in a frame of 2,122 bytes gets 3, with all its 65 siblings the line is too long and gets 1"
+-- §9.1.8: n = 65 gets 3 in the longest frame, and 1 with all its 65 siblings
 pub record EdgesOf65 (D : List ℕ → Dig) (s : Registers) (l : List ℕ) : Type 0 where
   pub gets-3 : allDigits l ≡ true → length l ≡ longestLine → kindOf (bytesOf l) ≡ 1 → getD (bytesOf l) 65 0 ≡ 65
       → answerTo D s l replyRoom .refusal ≡ 3
   pub gets-1 : length l ≡ 2 * (74 + 32 * 65) → answerTo D s l replyRoom .refusal ≡ 1
 
--- "Whole run, where S is 64 digits of alternating 0 and 1 (0101..01) and Z is 64 digits 0."
+-- §9.2.1, the whole run: S is 01 thirty-two times, Z 64 digits 0
 
 -- a line in and the line out for it, without its 0A
 pub data Exchange : Type 0 where
@@ -163,7 +163,7 @@ Runs D s (gets line reply ∷ l) =
 
 pub record ByHand : Type 1 where
   pub rows : (D : List ℕ → Dig) (u : Dig) → EveryRow D (table u)
-  -- "So with A = A', every number but A."
+  -- §3.5.4: where A is its own next, every number above 0 but A
   pub gap-of-one : (q A : ℕ) → eqb q 0 ≡ false → inGap q A A ≡ opposite (eqb q A)
   pub path : (D : List ℕ → Dig) → PathOf64 D
   pub path-reaches : PathReaches259

@@ -1,4 +1,4 @@
--- Document 01, "Strings and digests": "Each request's count has a stated ceiling". `proofs/Ceilings` shows it.
+-- The most blocks that a request may cost (§3.7.8). `proofs/Ceilings` shows it.
 use mathlib.Core.List.{List}
 use Prim.Native.Nat.{ℕ, _+_, _*_, _≤_}
 use lib.ListN.{length}
@@ -8,8 +8,7 @@ use Rattle.paper.specs.Strings.{Dig, cost}
 use Rattle.paper.specs.Requests.{Request, path, witness, join, pair, raise, swap, first, place, turn, chain, adopt, setTo, clear, ask, askNone, unlock, requestOf}
 use Rattle.paper.specs.Module.{answerFrame, answerTo}
 
--- "4n + 3 for a path of n levels; for kinds 02 to 0f in order 5, 9, 14, 11, 6, 3, 13, 4, 6, 2, 7, 6, 4, 0; for
--- open 0"
+-- the column "most blocks" of the table of kinds
 abbrev pub ceiling : Request → ℕ
 ceiling (path x x′ sides l) = 4 * length l + 3
 ceiling (witness x y m) = 5

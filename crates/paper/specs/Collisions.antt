@@ -1,5 +1,5 @@
 -- Two strings with one digest, as a thing that one can show: handed over where a law cannot do without, and assumed
--- away nowhere.
+-- away nowhere (§8.3.5, §9.3.5).
 use mathlib.Core.Path.{_≡_}
 use mathlib.Core.List.{List, List·Memᴰ}
 use Prim.Native.Nat.{ℕ}

@@ -1,4 +1,5 @@
--- Document 01: the whole answer to a line with its reply space, and the reader's and the writer's refusals.
+-- The whole answer to a line with its reply space (§1.1.2: it depends on the registers, the line and the space alone, and is there
+-- for every line, §8.1.1), and the reader's and the writer's refusals.
 use mathlib.Core.List.{List, [], _∷_, _++_}
 use Prim.Native.Nat.{ℕ, _+_, _*_}
 use mathlib.Core.Bool.{false}
@@ -26,15 +27,14 @@ lineOrder = 1 ∷ 2 ∷ 3 ∷ 15 ∷ []
 abbrev pub frameChecks : List ℕ → List Check
 frameChecks f = isKind (kindOf f) ∷ isFrame f ∷ []
 
--- "Reading a line into frame space refuses 1, 2, 3 as below, then 15 if the space is shorter than the frame"
+-- §4.2.1: what reading a line into a frame's space is checked for
 abbrev pub readChecks : (line : List ℕ) (space : ℕ) → List Check
 readChecks line space = let f = bytesOf line in isHex line ∷ roomFor (length f) space ∷ frameChecks f
 
 unfoldable pub readRefusal : (line : List ℕ) (space : ℕ) → ℕ
 readRefusal line space = refusalOf (judge lineOrder [] (readChecks line space))
 
--- "Writing a frame refuses ..: empty or longer than that 1, then 2 and 3 as below, then 15 if the space is
--- shorter than the line", with its 0A
+-- §4.3.1: what writing a frame is checked for; the line is counted with its 0A (§4.1.4)
 abbrev pub isWritable : List ℕ → Check
 isWritable f = plain 1 (either (eqb (length f) 0) (ltb longestFrame (length f)))
 
@@ -46,7 +46,7 @@ writeRefusal f space = refusalOf (judge lineOrder [] (writeChecks f space))
 
 -- ── the module ──
 
--- "Start from an unopened module": root and counter zero, not open; the secret's register may hold anything
+-- §2.1.1 to §2.1.4, at first: root and counter zero, not open; the secret's register may hold anything
 abbrev pub unopened : (secret : Dig) → Registers
 unopened k = record { root = nought; counter = record { 0 = 0 }; secret = k; opened = false }
 
@@ -60,8 +60,8 @@ pub record Told : Type 0 where
   pub effect : Effect
 
 module _ (D : List ℕ → Dig) where
-  -- "A refusal is 00 and its number", "registers stay as they were each time"; "a reply is the kind plus 80
-  -- hexadecimal, then what the table lists"
+  -- a refusal is 00 and its number (§5.3.2), leaves the registers as they were (§6.1.2) and does nothing else (§7.2.8); a reply is
+  -- the kind plus 80 hexadecimal and what the answer lists (§5.3.1)
   abbrev pub toldBy : Registers → (kind : ℕ) → Request → Verdict → Told
   toldBy s kind q (refusedBy n fs) = record { refusal = n; says = 0x00 ∷ n ∷ []; after = s; formed = fs; effect = none′ }
   toldBy s kind q (allPassed fs) =
@@ -89,10 +89,10 @@ module _ (D : List ℕ → Dig) where
       let f = bytesOf line in
       toldBy s (kindOf f) (requestOf f) (judge order [] (checksOf s line space))
 
--- the reply's line, with its 0A; of 15 "nothing written"
+-- the reply's line, with its 0A; of 15 there is none (§6.1.3)
 abbrev pub replyLine : Told → List ℕ
 replyLine t = pick (eqb (t .refusal) 15) [] (lineOf (t .says))
 
--- the reply space after it: the reply over its front, every other byte as it was
+-- the reply space after it: the reply over its front, every other byte as it was (§5.3.4, §8.1.4)
 abbrev pub spaceAfter : Told → List ℕ → List ℕ
 spaceAfter t d = replyLine t ++ drop (length (replyLine t)) d

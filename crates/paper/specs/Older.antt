@@ -1,5 +1,5 @@
--- Document 01, "Lines": "A memorandum made for a set at an older c gets 8." `proofs/Older` shows it, of two set lines that need
--- have nothing in common but the memorandum.
+-- A memorandum made for a set at an earlier counter gets 8 (§5.2.12). `proofs/Older` shows it, of two set lines that need have
+-- nothing in common but the memorandum.
 use mathlib.Core.Path.{_≡_}
 use mathlib.Core.List.{List, _++_}
 use mathlib.Core.Logic.{_⊎_}

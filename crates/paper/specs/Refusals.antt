@@ -1,4 +1,4 @@
--- Document 01, "Refusals by number, and their order", and the column "needs" of its table of kinds.
+-- The refusals and their order (docs/PROTOCOL.md, section 6), and the column "needs" of the table of kinds (5.1).
 use mathlib.Core.Path.{_≡_}
 use mathlib.Core.Bool.{Bool, true, false}
 use mathlib.Core.List.{List, [], _∷_, _++_}
@@ -14,8 +14,8 @@ use Rattle.paper.specs.declared.Registers.{Registers}
 use Rattle.paper.specs.Strings.{Dig, nought, Memo, u1, v1, u2, ei, Str, leaf, malformed, emptyRecord, blank, recordForms, inGap, digestOf, memorandum, memorandumForms, recordHash}
 use Rattle.paper.specs.Requests.{Request, path, witness, join, pair, raise, swap, first, place, turn, chain, adopt, setTo, clear, ask, askNone, unlock, known, fits, mostSiblings}
 
--- A check: its number in 01's table, whether it fails ("given when"), the strings that it forms, and the memorandum that it
--- compares, if any.
+-- A check: its number in the table of refusals, whether it fails (the column "given when"), the strings that it forms, and the
+-- memorandum that it compares, if any.
 pub record Check : Type 0 where
   pub number : ℕ
   pub fails : Bool
@@ -26,7 +26,7 @@ pub record Check : Type 0 where
 abbrev pub plain : (number : ℕ) (fails : Bool) → Check
 plain n b = record { number = n; fails = b; forms = []; compares = [] }
 
--- "Checked in this order"
+-- §6.1.1: the order of the checks
 abbrev pub order : List ℕ
 order = 15 ∷ 1 ∷ 2 ∷ 3 ∷ 13 ∷ 14 ∷ 12 ∷ 4 ∷ 5 ∷ 6 ∷ 11 ∷ 7 ∷ 8 ∷ 9 ∷ 10 ∷ []
 
@@ -36,7 +36,7 @@ requestOrder = drop 4 order
 
 -- ── the table, row by row ──
 
--- "The longest frame has 2,122 bytes, so 4,244 digits.": a path's kind, x, x', n and sides, and its siblings
+-- §4.1.3, the longest frame and line: a path's kind, x, x', n and sides, and its siblings
 abbrev pub beforeSiblings : ℕ
 beforeSiblings = 74
 
@@ -46,14 +46,14 @@ longestFrame = beforeSiblings + 32 * mostSiblings
 abbrev pub longestLine : ℕ
 longestLine = 2 * longestFrame
 
--- 15: the space is shorter than what has to fit it; for the module, "reply space under 195 bytes"
+-- §6.2.15: the space is shorter than what has to fit it; for the module, than every reply's line (§5.3.3)
 abbrev pub roomFor : (need space : ℕ) → Check
 roomFor need space = plain 15 (ltb space need)
 
 abbrev pub replyRoom : ℕ
 replyRoom = 195
 
--- 1: "line empty, odd, too long, or with another byte than 0-9, a-f"
+-- §6.2.1: no line of hexadecimal; a 0A in it is a byte like any other (§4.1.4)
 abbrev pub isHex : List ℕ → Check
 isHex line =
     plain 1
@@ -61,57 +61,57 @@ isHex line =
     (either (eqb (length line % 2) 1)
     (either (ltb longestLine (length line)) (opposite (allDigits line)))))
 
--- 2: "kind not in the table"
+-- §6.2.2: no such kind
 abbrev pub isKind : ℕ → Check
 isKind k = plain 2 (opposite (known k))
 
--- 3: "wrong length, n above 64, or a side bit at n or above"
+-- §6.2.3: not of its kind's length, or no sound path
 abbrev pub isFrame : List ℕ → Check
 isFrame f = plain 3 (opposite (fits f))
 
--- 13: "not open, kind other than 10"
+-- §6.2.13: not open; of every kind but 10
 abbrev pub isOpen : Registers → Check
 isOpen s = plain 13 (opposite (s .opened))
 
--- 14: "already open, kind 10"
+-- §6.2.14: open already; of kind 10
 abbrev pub isShut : Registers → Check
 isShut s = plain 14 (s .opened)
 
--- 12: "secret all zero"
+-- §6.2.12: a secret of zeros
 abbrev pub isSecret : Dig → Check
 isSecret k = plain 12 (allZero k)
 
--- 4: "q, A, A' or B' is 0"
+-- §6.2.4: an item number 0, which is none (§3.5.1)
 abbrev pub notZero : ℕ → Check
 notZero n = plain 4 (eqb n 0)
 
--- 5: "malformed record"
+-- §6.2.5: a malformed record
 abbrev pub wellFormed : Record → Check
 wellFormed r = plain 5 (malformed r)
 
--- 6: "place: A' not in the gap; ask: q neither A nor in the gap"
+-- §6.2.6: in a place not in the gap (§5.2.6, §9.3.1); in an ask neither the item nor in the gap
 abbrev pub inTheGap : (q A A′ : ℕ) → Check
 inTheGap q A A′ = plain 6 (opposite (inGap q A A′))
 
 abbrev pub isOrInTheGap : (q A A′ : ℕ) → Check
 isOrInTheGap q A A′ = plain 6 (opposite (either (eqb q A) (inGap q A A′)))
 
--- 11: "clear of an empty record"
+-- §6.2.11: a record that is none
 abbrev pub isRecorded : Record → Check
 isRecorded r = plain 11 (blank r)
 
--- 7: "set or clear with c at 2^64 - 1"
+-- §6.2.7: the counter is at its top
 abbrev pub top : ℕ
 top = 2 ^ 64 - 1
 
 abbrev pub belowTop : Registers → Check
 belowTop s = plain 7 (eqb (s .counter .0) top)
 
--- 10: "y, or for 0f zero, isn't the root: stale"
+-- §6.2.10: stale, another digest than the root
 abbrev pub isRoot : Registers → Dig → Check
 isRoot s y = plain 10 (opposite (same y (s .root)))
 
--- "The new record is [c+1, v2, v3, v4], or empty for clear."
+-- §5.2.10: the new record of a set, with the raised counter as its revision, and that of a clear
 abbrev pub nextRecord : Registers → Values → Record
 nextRecord s v =
     record {
@@ -124,7 +124,7 @@ nextRecord s v =
 abbrev pub clearedRecord : Record
 clearedRecord = emptyRecord
 
--- Place: "x1 is leaf(A,A',ω), x1' is leaf(A,B',ω), x2 is leaf(A',B',0), x2' is 0"; the two orders
+-- §5.2.5: the leaves that a place speaks of; §5.2.7: the two orders
 abbrev pub placeForms : (A A′ B′ : ℕ) (ω : Dig) → List Str
 placeForms A A′ B′ ω = leaf A A′ ω ∷ leaf A B′ ω ∷ leaf A′ B′ nought ∷ []
 
@@ -139,11 +139,12 @@ module _ (D : List ℕ → Dig) where
   noneFits k [] m = true
   noneFits k (t ∷ l) m = pick (same (memorandum D t k) m) false (noneFits k l m)
 
+  -- §3.7.5: the strings formed in looking for one that fits, none behind it
   abbrev pub tried : (secret : Dig) → List Memo → (m : Dig) → List Str
   tried k [] m = []
   tried k (t ∷ l) m = memorandumForms D t k ++ pick (same (memorandum D t k) m) [] (tried k l m)
 
-  -- 8 and 9: "first memorandum doesn't match", "second ..": with the strings formed for what it may say
+  -- §6.2.8 and §6.2.9: the first or the second memorandum is none of those that fit; with the strings formed for these (§3.7.4)
   abbrev pub first-memo : (s : Registers) (before : List Str) (says : List Memo) (m : Dig) → Check
   first-memo s before says m =
       record {
@@ -164,7 +165,7 @@ module _ (D : List ℕ → Dig) where
 
   -- ── the column "needs" ──
 
-  -- "x is leaf(A,A',old hash), x' the leaf with the new hash"
+  -- the leaf of an item with a record (§5.2.9, §5.2.13)
   abbrev pub leafOf : (A A′ : ℕ) → Record → Str
   leafOf A A′ r = leaf A A′ (recordHash D r)
 
@@ -239,8 +240,8 @@ applies n cs = anyFails (those n cs)
 abbrev pub formedAt : ℕ → List Check → List Str
 formedAt n cs = formsAll (those n cs)
 
--- refused by a number, or passed; with the strings formed "in the order of the checks and no further than the
--- check that refuses" (which strings, and how often: their order in the list says nothing)
+-- refused by a number, or passed; with the strings formed, up to the check that refuses (§3.7.3: which strings, and how often;
+-- their order in the list says nothing)
 pub data Verdict : Type 0 where
   refusedBy : ℕ → List Str → Verdict
   allPassed : List Str → Verdict
@@ -265,7 +266,7 @@ abbrev pub Passed : List ℕ → List Check → Type 0
 Passed [] cs = Unit {0}
 Passed (n ∷ ns) cs = (applies n cs ≡ false) × Passed ns cs
 
--- "the first to apply": n is one of the numbers, it applies, and none before it does
+-- §8.1.3, the first that applies: n is one of the numbers, it applies, and none before it does
 pub record FirstToApply (numbers : List ℕ) (cs : List Check) (n : ℕ) : Type 0 where
   pub before : List ℕ
   pub behind : List ℕ

@@ -1,4 +1,4 @@
--- Document 01, "Lines": the table of kinds, what each carries, and a frame read as a request.
+-- The table of kinds (§5.1.1 to §5.1.16), what each carries, and a frame read as a request.
 use mathlib.Core.Bool.{Bool, true}
 use mathlib.Core.List.{List, [], _∷_, _++_}
 use Prim.Native.Nat.{ℕ, zero, suc, _+_, _-_, _*_, _/_, _^_}
@@ -44,7 +44,7 @@ abbrev digests : ℕ → List Carried
 digests zero = []
 digests (suc n) = aDigest ∷ digests n
 
--- "n (1 byte), sides (8), n siblings"; "up to 64 siblings of 32 bytes each"
+-- a path's n, its sides and its siblings, up to 64 of them, the lowest first (§5.2.1)
 abbrev pub mostSiblings : ℕ
 mostSiblings = 64
 
@@ -70,7 +70,7 @@ recordIn l =
       rigging = record { 0 = numberOf (take 8 (drop 24 l)) };
     }
 
--- "v2, v3, v4"
+-- the mass, offset and rigging code that a set carries
 abbrev pub valuesIn : List ℕ → Values
 valuesIn l =
     record {
@@ -190,7 +190,7 @@ kinds =
 
 -- ── a frame ──
 
--- "A frame is a kind byte and fields."
+-- §4.1.1: a frame begins with its kind
 abbrev pub kindOf : List ℕ → ℕ
 kindOf f = getD f 0 0
 
@@ -221,7 +221,7 @@ part [] l i = []
 part (c ∷ cs) l zero = take (takes c l) l
 part (c ∷ cs) l (suc i) = part cs (drop (takes c l) l) i
 
--- "n above 64, or a side bit at n or above": a path may not be so
+-- §6.2.3, §5.2.3: a path has at most 64 siblings, and no bit of its sides from n up
 abbrev pub sound : Carried → List ℕ → Bool
 sound aNumber l = true
 sound aDigest l = true

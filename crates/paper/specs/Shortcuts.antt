@@ -1,4 +1,4 @@
--- Document 01, "Shortcuts that look right": what they would let in is refused; and two more that are soon taken.
+-- Shortcuts that look right (docs/PROTOCOL.md, 9.3): what they would let in is refused; and two more that are soon taken.
 -- `proofs/Shortcuts` shows it.
 use mathlib.Core.Path.{_≡_}
 use mathlib.Core.Bool.{true, false}
@@ -26,11 +26,11 @@ module _ (D : List ℕ → Dig) where
   refusalFor s q = refusalOf (verdictOn s q)
 
   pub record Shortcuts : Type 0 where
-    -- "Inserting without the gap test"
+    -- §9.3.1: inserting without the gap test
     pub gap-tested : (s : Registers) (A A′ B′ : ℕ) (ω y y′ m : Dig) → s .opened ≡ true
         → eqb A 0 ≡ false → eqb A′ 0 ≡ false → eqb B′ 0 ≡ false → inGap A′ A B′ ≡ false
         → refusalFor s (place A A′ B′ ω y y′ m) ≡ 6
-    -- "Accepting [0, 5000, 0, 0] for an empty item because both hash to 0": in an ask, a set and a clear
+    -- §9.3.2: a malformed record as an empty one, in an ask, a set and a clear
     pub malformed-asked : (s : Registers) (q A A′ : ℕ) (r : Record) (y m : Dig) → s .opened ≡ true
         → eqb q 0 ≡ false → eqb A 0 ≡ false → eqb A′ 0 ≡ false → malformed r ≡ true
         → refusalFor s (ask q A A′ r y m) ≡ 5
@@ -38,18 +38,18 @@ module _ (D : List ℕ → Dig) where
         → eqb A 0 ≡ false → eqb A′ 0 ≡ false → malformed old ≡ true → refusalFor s (setTo A A′ old v y y′ m) ≡ 5
     pub malformed-cleared : (s : Registers) (A A′ : ℕ) (old : Record) (y y′ m : Dig) → s .opened ≡ true
         → eqb A 0 ≡ false → eqb A′ 0 ≡ false → malformed old ≡ true → refusalFor s (clear A A′ old y y′ m) ≡ 5
-    -- "Joining when only the old halves meet; y' must meet as well": m1 fits, and m2 was made for another new half w than y'
+    -- §9.3.3: only the old halves meet; m1 fits, and m2 was made for another new half w than y'
     pub halves-meet : (s : Registers) (x y x′ y′ z z′ w : Dig) → s .opened ≡ true
         → length y ≡ 32 → length z ≡ 32 → length y′ ≡ 32 → length w ≡ 32 → (w ≡ y′ → ⊥)
         → (refusalFor s (join x y x′ y′ (memorandum D (u1 x y x′ y′) (s .secret)) z z′ (memorandum D (u1 y z w z′) (s .secret))) ≡ 9)
         ⊎ Collision D (memorandumForms D (u1 y z w z′) (s .secret) ++ memorandumForms D (u1 y z y′ z′) (s .secret))
-    -- "Reading an all-zero memorandum as "none given"": in every kind that carries one it gets 8 or 9 where nothing before 8
+    -- §9.3.4: zeros as a memorandum; in every kind that carries one they get 8 or 9 where nothing before 8
     -- applies, unless it is the digest of a string formed for the line
     pub zero-given : (s : Registers) (q : Request) → List·Memᴰ nought (carriedMemoranda D s q)
         → Passed (numbersBefore 8 requestOrder) (needs D s q)
         → ((refusalFor s q ≡ 8) ⊎ (refusalFor s q ≡ 9))
         ⊎ ((x : Str) × List·Memᴰ x (formedBy (verdictOn s q)) × (digestOf D x ≡ nought))
-    -- "Checked in this order": 13 comes before 4
+    -- §6.1.1: 13 comes before 4
     pub shut-first : (s : Registers) → s .opened ≡ false → refusalFor s (first 0) ≡ 13
     -- the counter is of record changes: adopt leaves it
     pub adopt-keeps-counter : (s : Registers) (y y′ m : Dig) → answer D s (adopt y y′ m) .after .counter ≡ s .counter

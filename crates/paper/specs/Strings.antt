@@ -1,4 +1,4 @@
--- Document 01, "Strings and digests". All of it for any digest D of a string's bytes.
+-- Strings and digests (docs/PROTOCOL.md, section 3). All of it for any digest D of a string's bytes.
 use mathlib.Core.Bool.{Bool}
 use mathlib.Core.Path.{_≡_}
 use mathlib.Core.List.{List, [], _∷_, _++_}
@@ -10,7 +10,7 @@ use Rattle.seqs.specs.Bytes.{be64, allZero}
 use Rattle.sha256.specs.Padding.{blocks}
 use Rattle.paper.specs.declared.Record.{Record}
 
--- a digest as its bytes; "0" for a digest is 32 zero bytes
+-- a digest as its bytes; the digest 0 (§3.1.2)
 abbrev pub Dig : Type 0
 Dig = List ℕ
 
@@ -19,22 +19,22 @@ nought = replicate 32 0
 
 -- ── the table of strings ──
 
--- What a memorandum says (tags 04 to 07). U1: y is above x, and x changed to x' makes y into y'. V1: y is
--- above x. U2: the same as U1 for two separate places. EI: the two roots stand for equally good rings.
+-- What a memorandum says (§3.6.2 to §3.6.5). U1: y stands above x, and with x' there it is y'. V1: y stands above x. U2: as U1, of
+-- two separate places. EI: two roots stand for rings equally well made. What each means of a list is in `rings`.
 pub data Memo : Type 0 where
   u1 : (x y x′ y′ : Dig) → Memo
   v1 : (x y : Dig) → Memo
   u2 : (x1 x2 y x1′ x2′ y′ : Dig) → Memo
   ei : (y y′ : Dig) → Memo
 
--- A string: the table's rows. A memorandum's string is what it says, and the secret.
+-- A string: the table's rows (§3.2.1 to §3.2.7). A memorandum's string is what it says, and the secret (§3.6.1).
 pub data Str : Type 0 where
   leaf : (A A′ : ℕ) (ω : Dig) → Str
   node : (u v : Dig) → Str
   entry : (r : Record) → Str
   memoString : (m : Memo) (secret : Dig) → Str
 
--- the numbers of a record, in 01's order
+-- the four numbers of a record (§3.4.1)
 abbrev pub numbers : Record → List ℕ
 numbers r = r .revision .0 ∷ r .mass .0 ∷ r .offset .0 ∷ r .rigging .0 ∷ []
 
@@ -51,7 +51,7 @@ memoDigests (v1 x y) = x ∷ y ∷ []
 memoDigests (u2 x1 x2 y x1′ x2′ y′) = x1 ∷ x2 ∷ y ∷ x1′ ∷ x2′ ∷ y′ ∷ []
 memoDigests (ei y y′) = y ∷ y′ ∷ []
 
--- "A string is one tag byte and its fields"
+-- §3.1.3: a tag byte and fields
 abbrev pub tagOf : Str → ℕ
 tagOf (leaf A A′ ω) = 0x01
 tagOf (node u v) = 0x02
@@ -78,7 +78,7 @@ fieldsOf (node u v) = digestField u ∷ digestField v ∷ []
 fieldsOf (entry r) = nums (numbers r)
 fieldsOf (memoString m k) = digs (memoDigests m ++ (k ∷ []))
 
--- "Numbers are 8 bytes, most significant first"; a digest is its 32 bytes
+-- a number as its 8 bytes (§3.1.1), a digest as its 32
 abbrev pub fieldBytes : Field → List ℕ
 fieldBytes (numberField n) = be64 n
 fieldBytes (digestField d) = d
@@ -117,7 +117,7 @@ StringFits s = FieldsFit (fieldsOf s)
 
 -- ── counts ──
 
--- "for each string formed, again if repeated, (length + 8) div 64, plus 1"
+-- §3.7.2: what the strings formed cost, each as often as it is formed
 abbrev pub cost : List Str → ℕ
 cost [] = 0
 cost (s ∷ l) = blocks (lengthOf s) + cost l
@@ -138,17 +138,17 @@ emptyRecord =
 abbrev pub blank : Record → Bool
 blank r = eqb (r .revision .0) 0
 
--- "A record with v1 = 0 and another field not 0 is malformed."
+-- §3.4.3: no revision, and yet another number
 unfoldable pub malformed : Record → Bool
 malformed r = both (blank r) (opposite (allZero (numbers r)))
 
--- the string of a record's hash, where there is one
+-- the string of a record's hash, where there is one (§3.7.7)
 unfoldable pub recordForms : Record → List Str
 recordForms r = pick (blank r) [] (entry r ∷ [])
 
 -- ── the gap ──
 
--- "if A < A', the numbers strictly between; otherwise those above A or below A' (0 excluded)": q lies in it
+-- q lies in the gap of A and A': between them (§3.5.3), or round the end (§3.5.4)
 unfoldable pub inGap : (q A A′ : ℕ) → Bool
 inGap q A A′ =
     pick (ltb A A′)
@@ -157,7 +157,7 @@ inGap q A A′ =
 
 -- ── nodes and paths ──
 
--- the string of H(u,v), where there is one
+-- the string of H(u,v), where there is one (§3.7.7)
 unfoldable pub parentForms : (u v : Dig) → List Str
 parentForms u v = pick (allZero v) [] (pick (allZero u) [] (node u v ∷ []))
 
@@ -173,16 +173,16 @@ module _ (D : List ℕ → Dig) where
   abbrev pub memorandumForms : Memo → (secret : Dig) → List Str
   memorandumForms t k = memoString t k ∷ []
 
-  -- "Its hash is 0 if v1 is 0, else the digest"
+  -- §3.4.2: the hash of a record
   unfoldable pub recordHash : Record → Dig
   recordHash r = pick (blank r) nought (digestOf (entry r))
 
-  -- "The parent H(u,v) is u if v is 0, v if u is 0, else the digest of the node string"
+  -- §3.3.1: the parent of two digests
   unfoldable pub H : (u v : Dig) → Dig
   H u v = pick (allZero v) u (pick (allZero u) v (digestOf (node u v)))
 
-  -- "Path: siblings .. lowest first. Bit j of sides, lowest bit first, is 1 if sibling j stands on the left."
-  -- One level up, from u with the sibling s and its bit
+  -- The way up (§5.2.4), the lowest sibling first. One level, from u with the sibling s and its bit, which is 1 where s stands on
+  -- the left (§5.2.2)
   abbrev pub up : (u s : Dig) (bit : ℕ) → Dig
   up u s bit = pick (eqb bit 1) (H s u) (H u s)
 

@@ -1,8 +1,8 @@
-// Document 01 as types and numbers. The definitions over them are in specs/, which is the text to believe; there is no
-// code here.
+// The paper, docs/PROTOCOL.md, as types and numbers. The definitions over them are in specs/, which is the text to believe; there
+// is no code here.
 
-// "Up to 64 siblings"; a path's frame before them; "the longest frame has 2,122 bytes, so 4,244 digits"; the space that every reply
-// fits; "c at 2^64 - 1". The definitions' names for them are `mostSiblings`, `beforeSiblings`, `longestFrame`, `longestLine`,
+// A path's siblings at most (§5.2.1); its frame before them; the longest frame and line (§4.1.3); the space that every reply fits
+// (§5.3.3); the counter's top (§6.2.7). The definitions' names for them are `mostSiblings`, `beforeSiblings`, `longestFrame`, `longestLine`,
 // `replyRoom` and `top`; contracts hold the code to those.
 pub const MOST_SIBLINGS: usize = 64;
 
@@ -16,7 +16,7 @@ pub const REPLY_ROOM: usize = 195;
 
 pub const TOP: u64 = 18446744073709551615;
 
-// "Item numbers, revisions and kilograms must not be mixed up": a type for each kind of number.
+// A type for each sort of number, so that none is taken for another (§2.2.2, §10.1.2).
 pub struct Item(pub u64);
 
 // The change counter is one too: the record that a set leaves has the raised counter as its revision.
@@ -28,7 +28,7 @@ pub struct Millimetres(pub u64);
 
 pub struct Rigging(pub u64);
 
-// "A record is revision, mass in kg, offset of the centre of gravity in mm, rigging code."
+// §3.4.1: a record.
 pub struct Record {
     pub revision: Revision,
     pub mass: Kilograms,
@@ -43,7 +43,7 @@ pub struct Values {
     pub rigging: Rigging,
 }
 
-// "Root (32 bytes, zero at first), change counter c (64 bits, zero at first), secret (32 bytes), open or not."
+// §2.1.1 to §2.1.4: the registers.
 pub struct Registers {
     pub root: [u8; 32],
     pub counter: Revision,
@@ -51,7 +51,7 @@ pub struct Registers {
     pub opened: bool,
 }
 
-// "The reply holds exactly one of three findings": a record with its numbers, listed with none, or a gap.
+// §5.2.14, §10.1.5: one of three findings, a record with its numbers, listed with none, or a gap.
 pub enum Finding {
     Recorded(Item, Record),
     Listed(Item),

@@ -12,7 +12,7 @@ pub record Taker (S : Type 0) : Type 0 where
   pub lineByte : S → ℕ → S
   pub stops : S → Bool
 
--- Document 01, "Lines": a line is "ended by byte 0A"
+-- §4.1.2, §4.1.4: 0A ends a line, and is not of it
 abbrev pub endsLine : ℕ → Bool
 endsLine b = eqb b 0x0a
 

@@ -1,7 +1,6 @@
 -- The lines of a whole input, and those that a program finds that is given the input in pieces and calls `next_line`
 -- over and over.
--- Document 01, "Lines": "The program takes a last piece without 0A, if it isn't empty, as if 0A followed; empty input
--- gives empty output."
+-- A last piece without 0A is a line where it is not empty (§4.1.5); of no input there are no lines (§4.1.6).
 use mathlib.Core.Bool.{false}
 use mathlib.Core.List.{List, [], _∷_, _++_, map}
 use Prim.Native.Nat.{ℕ}

@@ -1,4 +1,4 @@
--- The gap as a proposition, in its three cases, and that it is the gap of document 01 (paper's `inGap`).
+-- The gap as a proposition, in its three cases, and that it is the paper's gap (`inGap`).
 use mathlib.Core.Bool.{Bool, true, false, true≢false}
 use mathlib.Core.Path.{_≡_, refl, sym}
 use mathlib.Core.Logic.{_≢_}
@@ -25,7 +25,7 @@ gap-apart (between h k) = omega arith
 gap-apart (beyond h k) = omega arith
 gap-apart (before h k l) = omega arith
 
--- what document 01's test says
+-- what the paper's test says
 pub gap-holds : (q A A′ : ℕ) → inGap q A A′ ≡ true → Gap A A′ q
 unfolding inGap
 gap-holds q A A′ = go (ltb A A′) (ltb A q) (ltb q A′) (eqb q 0) refl refl refl refl

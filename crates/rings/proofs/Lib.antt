@@ -4,7 +4,7 @@
 --
 -- Lists and their rings, for records of any type
 -- Counting     how often a leaf occurs
--- Gaps         the gap in its three cases, and that it is document 01's
+-- Gaps         the gap in its three cases, and that it is the paper's
 -- Items        insert, remove and put a record keep a list ascending
 -- Ring         where a leaf of the ring can stand, and that nothing is listed in its gap
 -- Find         the leaf of an item, and the leaf in whose gap a number lies

@@ -1,12 +1,12 @@
--- What an issued memorandum stands for, as steps on the list: 01, "Replay" ("turn does the reverse of what its memorandum
--- stands for; chain does both in order") and "Legal".
+-- What an issued memorandum stands for, as steps on the list (docs/PROTOCOL.md, 7.2), the reverse of steps (§7.2.4, §5.2.8), and
+-- which steps are legal (7.3).
 use mathlib.Core.List.{List, [], _∷_, _++_}
 use Prim.Native.Nat.{ℕ, _<_}
 use Rattle.paper.specs.declared.Record.{Record}
 use Rattle.paper.specs.Strings.{emptyRecord}
 use Rattle.rings.specs.Lists.{ListItem, OnList, Unlisted, insert, remove}
 
--- "first adds an empty item; place removes one"
+-- an item more, without a record (§7.2.1), or one less (§7.2.2)
 pub data Step : Type 0 where
   insertion : (A : ℕ) → Step
   removal : (A : ℕ) → Step
@@ -29,7 +29,7 @@ abbrev pub reversed : List Step → List Step
 reversed [] = []
 reversed (s ∷ c) = reversed c ++ (undoing s ∷ [])
 
--- "Legal: to insert a number that isn't 0 and isn't listed, to remove a listed empty item": each step for the list it meets
+-- §7.3.1, §7.3.2: what may be inserted or removed; each step for the list it meets
 abbrev pub LegalStep : Step → List (ListItem Record) → Type 0
 LegalStep (insertion A) ls = (0 < A) × Unlisted A ls
 LegalStep (removal A) ls = OnList A emptyRecord ls

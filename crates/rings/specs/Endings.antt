@@ -4,7 +4,7 @@ use mathlib.Core.List.{List, List·Memᴰ}
 use Prim.Native.Nat.{ℕ}
 use Rattle.paper.specs.Strings.{Dig, nought, Str, digestOf}
 
--- demand 3: "such a string with an all-zero digest": it is among the strings formed
+-- §8.3.6: a string whose digest is 0, among the strings formed
 pub record ZeroDigest (D : List ℕ → Dig) (formed : List Str) : Type 0 where
   pub string : Str
   pub string-formed : List·Memᴰ string formed

@@ -1,4 +1,4 @@
--- The list that a root stands for, the ring of its items, and the changes of the list (01, "Replay"). All of it for
+-- The list that a root stands for, the ring of its items (§3.5.2), and the changes of the list (7.2). All of it for
 -- records of any type R, whose hash is h.
 use mathlib.Core.List.{List, [], _∷_, List·Memᴰ}
 use mathlib.Core.Logic.{_≢_}
@@ -13,7 +13,7 @@ pub data ListItem (R : Type 0) : Type 0 where
   itemWith : (A : ℕ) (r : R) → ListItem R
 
 module _ {R : Type 0} where
-  -- "one ascending ring of distinct item numbers": each number is above the one before, the first above b
+  -- §8.3.1, different numbers, ascending: each is above the one before, the first above b
   abbrev pub AscendingFrom : (b : ℕ) → List (ListItem R) → Type 0
   AscendingFrom b [] = Unit {0}
   AscendingFrom b (itemWith a r ∷ l) = (b < a) × AscendingFrom a l
@@ -28,18 +28,18 @@ module _ {R : Type 0} where
 
   -- ── changes ──
 
-  -- an item more, before the first of a greater number ("first adds an empty item"). Of a listed number it would make a second
-  -- one: that no run comes to that before it ends is `LegalEffect` of `runs`
+  -- an item more, before the first of a greater number. Of a listed number it would make a second one: that no run comes to that
+  -- before it ends is `LegalEffect` of `runs`
   unfoldable pub insert : (A : ℕ) → R → List (ListItem R) → List (ListItem R)
   insert A r [] = itemWith A r ∷ []
   insert A r (itemWith a s ∷ l) = pick (ltb A a) (itemWith A r ∷ itemWith a s ∷ l) (itemWith a s ∷ insert A r l)
 
-  -- item A taken out ("place removes one")
+  -- item A taken out
   unfoldable pub remove : (A : ℕ) → List (ListItem R) → List (ListItem R)
   remove A [] = []
   remove A (itemWith a s ∷ l) = pick (eqb A a) l (itemWith a s ∷ remove A l)
 
-  -- another record for item A ("set and clear change one record")
+  -- another record for item A (§7.2.7)
   unfoldable pub putRecord : (A : ℕ) → R → List (ListItem R) → List (ListItem R)
   putRecord A r [] = []
   putRecord A r (itemWith a s ∷ l) = pick (eqb A a) (itemWith a r ∷ l) (itemWith a s ∷ putRecord A r l)

@@ -1,6 +1,5 @@
--- What the memoranda mean (01, "Strings and digests": "U1 says: y is above x, and x changed to x' makes y into y'. V1: y is above
--- x. U2: the same as U1 for two separate places. EI: the two roots stand for equally good rings."). A memorandum knows digests
--- only. What it says is so of the strings F formed so far, for any digest D of strings, and stays so when more are formed.
+-- What the memoranda mean (§3.6.2 to §3.6.5). A memorandum knows digests only. What it says is so of the strings F formed so far,
+-- for any digest D of strings, and stays so when more are formed.
 use mathlib.Core.Path.{_≡_}
 use mathlib.Core.List.{List, [], _∷_, List·Memᴰ}
 use mathlib.Core.Logic.{_⊎_, _≢_}
@@ -36,8 +35,7 @@ AllRecords P (itemWith a r ∷ l) = P r × AllRecords P l
 module _ (D : Str → Dig) where
   -- ── digests that stand above others ──
 
-  -- "The parent H(u,v) is u if v is 0, v if u is 0, else the digest of the node string": on digests of 32 bytes this is paper's H
-  -- (`proofs/Bridge`)
+  -- the parent of two digests: on digests of 32 bytes this is paper's H (`proofs/Bridge`)
   unfoldable pub above : Dig → Dig → Dig
   above a b = pick (same b nought) a (pick (same a nought) b (D (node a b)))
 
@@ -66,7 +64,7 @@ module _ (D : Str → Dig) where
 
   -- ── U1, V1 and U2 ──
 
-  -- "U1 says: y is above x, and x changed to x' makes y into y'": one path leads from x to y and from x' to y'
+  -- U1 (§3.6.2): one path leads from x to y and from x' to y'
   pub record MeansU1 (F : List Str) (x y x′ y′ : Dig) : Type 0 where
     pub path : List Sibling
     pub up : fold path x ≡ y
@@ -74,13 +72,13 @@ module _ (D : Str → Dig) where
     pub on : PathIn F path x
     pub on′ : PathIn F path x′
 
-  -- "V1: y is above x": a path leads from x to y
+  -- V1 (§3.6.3): a path leads from x to y
   pub record MeansV1 (F : List Str) (x y : Dig) : Type 0 where
     pub path : List Sibling
     pub up : fold path x ≡ y
     pub on : PathIn F path x
 
-  -- "U2: the same as U1 for two separate places": two paths that meet under one node, so that neither place is in the other, and
+  -- U2 (§3.6.4): two paths that meet under one node, so that neither place is in the other, and
   -- one above it, lead from x1 and x2 to y and from x1' and x2' to y'
   pub record MeansU2 (F : List Str) (x₁ x₂ y x₁′ x₂′ y′ : Dig) : Type 0 where
     pub p₁ : List Sibling
@@ -104,7 +102,7 @@ module _ (D : Str → Dig) where
   TreeIn F (tip (points a b w)) = leaf a b w ∈ F
   TreeIn F (branch l r) = TreeIn F l × TreeIn F r × NodeIn F (hashOfTree l) (hashOfTree r)
 
-  -- "Its hash is 0 if v1 is 0, else the digest": this is paper's `recordHash` (`proofs/Bridge`)
+  -- the hash of a record: this is paper's `recordHash` (`proofs/Bridge`)
   unfoldable pub hashRecord : Record → Dig
   hashRecord r = pick (blank r) nought (D (entry r))
 
@@ -141,7 +139,7 @@ module _ (D : Str → Dig) where
       (G : List Str) → Within F G → (T : Tree) (ls : List (ListItem Record)) → hashOfTree T ≡ y → StandsFor G T ls
       → Fault G ⊎ TreeMoved G y′ c ls
 
-  -- "EI: the two roots stand for equally good rings": the steps c lead from any tree of hash y to one of hash y', and back
+  -- EI (§3.6.5): the steps c lead from any tree of hash y to one of hash y', and back
   pub record MeansEI (F : List Str) (y y′ : Dig) (c : List Step) : Type 0 where
     pub forth : StepsLead F y y′ c
     pub back : StepsLead F y′ y (reversed c)

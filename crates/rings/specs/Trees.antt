@@ -1,12 +1,11 @@
--- The trees that roots stand for, their leaves and their hashes (demand 3: "the root is that of a tree whose leaves
--- form one ascending ring .. and hold exactly the list").
+-- The trees that roots stand for, their leaves and their hashes (§8.3.1, §8.4.4).
 use mathlib.Core.Path.{_≡_}
 use mathlib.Core.List.{List, [], _∷_, _++_, List-discrete}
 use Prim.Native.Nat.{ℕ, _+_}
 use native.Mathlib.Decide.{ℕ-discrete}
 use Rattle.paper.specs.Strings.{Dig, nought, leaf, digestOf, H}
 
--- "leaf: A, A', ω": an item, the next item round the ring, the hash of the item's record
+-- a leaf: an item, the next item round the ring, the hash of the item's record
 pub data TreeLeaf : Type 0 where
   points : (A A′ : ℕ) (ω : Dig) → TreeLeaf
   deriving Discrete as TreeLeaf-by-fields

@@ -103,13 +103,13 @@ module _ (D : List ℕ → Dig) where
       ⊎ (Shown (after D k (onwards us ts) .formed)
       ⊎ ReplayComesTo k ts us (itemsAfter (after D k ts .registers) (after D k ts .items) x))
 
-  -- "A memorandum stands for what the earliest line that issued it does": whatever lines follow
+  -- §7.1.2: a memorandum goes on standing for what its earliest line does, whatever lines follow
   abbrev pub EarliestStays : Type 0
   EarliestStays =
       (k : Dig) (ts : List LineTurn) (t : LineTurn) (m : Dig) → isIssued m (after D k ts .book) ≡ true
       → stepsFor m (after D k (t ∷ ts) .book) ≡ stepsFor m (after D k ts .book)
 
-  -- "A line issues the memorandum its reply lists": an accepted line of kinds 01 to 0a enters one memorandum behind those issued
+  -- §7.1.1: an accepted line of kinds 01 to 0a enters one memorandum behind those issued
   -- before, the last 32 bytes of its reply; no other line enters any.
   pub record LineEnters (w : World) (t : LineTurn) (book : List Issue) : Type 0 where
     pub issuing : toldAt D w t .refusal ≡ 0 → kindOf (bytesOf (t .line)) ≤ 0x0a

@@ -64,8 +64,7 @@ ListRowSays D (forbids x) = LegalWish small x → ⊥
 ListRowSays D (bears q f) = TrueFinding D q f small
 ListRowSays D (denies q f) = TrueFinding D q f small → ⊥
 
--- "to insert a number that isn't 0 and isn't listed, to remove a listed empty item, to swap the places of two listed items, to
--- set a listed item, to clear a recorded one"; "every question on a number above 0"
+-- each kind of wish, legal and not (§7.3.1 to §7.3.6)
 abbrev pub wishes : List ListRow
 wishes =
     permits (insertItem 7)
@@ -100,7 +99,7 @@ wishes =
     ∷ forbids (askAbout (2 ^ 64))
     ∷ []
 
--- "every accepted answer on a record, an empty item or a gap is true of that list"
+-- each finding, true and not (§8.3.4)
 abbrev pub findings : List ListRow
 findings =
     -- a record: that item's, every number of it, and only where there is one
@@ -157,8 +156,7 @@ rotorBytes = eight 0x00 0x00 0x03 ++ eight 0x01 0x0d 0x24 ++ eight 0x00 0x04 0xe
 abbrev noRecord : List ℕ
 noRecord = eight 0x00 0x00 0x00 ++ eight 0x00 0x00 0x00 ++ eight 0x00 0x00 0x00 ++ eight 0x00 0x00 0x00
 
--- "1, A, record; 2, A (listed, no record; q = A); 3, A, A' (q in the gap)": asked on 9 by the leaf of 9 and 5, on 5 and on 7 by
--- the leaf of 5 and 9
+-- the three findings as bytes (§5.2.14): asked on 9 by the leaf of 9 and 5, on 5 and on 7 by the leaf of 5 and 9
 abbrev pub questions : List Question
 questions =
     record {

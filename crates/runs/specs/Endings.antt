@@ -1,5 +1,5 @@
--- "This may end only at something one can show: two different strings, formed by 01's rules for those lines, with one
--- digest; such a string with an all-zero digest; or an accepted memorandum that no earlier line of the run issued."
+-- How a run may end, only at something that can be shown: two different strings, formed for its lines, with one digest (§8.3.5); one
+-- whose digest is 0 (§8.3.6); a memorandum in an accepted line that no earlier line issued (§8.3.7).
 use mathlib.Core.Path.{_≡_}
 use mathlib.Core.Bool.{false}
 use mathlib.Core.List.{List, _∷_, List·Memᴰ}

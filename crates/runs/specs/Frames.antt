@@ -1,6 +1,5 @@
--- A request written as a line: document 01, "Lines" ("A frame is a kind byte and fields. A line is its bytes in lower-case
--- hexadecimal"), by the column "carries" of its table of kinds. Paper's table reads a frame; this one writes it, and
--- `proofs/Frames` shows that what is written reads back as the same request.
+-- A request written as a line (§4.1.1, §4.1.2), by the column "carries" of the table of kinds. Paper's table reads a frame; this
+-- one writes it, and `proofs/Frames` shows that what is written reads back as the same request.
 use mathlib.Core.List.{List, [], _∷_, _++_}
 use Prim.Native.Nat.{ℕ}
 use lib.ListN.{length}
@@ -18,7 +17,7 @@ abbrev pub together : List (List ℕ) → List ℕ
 together [] = []
 together (p ∷ ps) = p ++ together ps
 
--- a record's four numbers; a set's three; a path's "n (1 byte), sides (8), n siblings"
+-- a record's four numbers; a set's three; a path's n, sides and siblings
 abbrev pub recordBytes : Record → List ℕ
 recordBytes r = spread (nums (numbers r))
 
@@ -69,7 +68,7 @@ abbrev pub linesOf : List Request → List (List ℕ)
 linesOf [] = []
 linesOf (q ∷ qs) = lineFor q ∷ linesOf qs
 
--- with "reply space of 195 bytes"
+-- with the reply space that is enough (§7.4.4)
 abbrev pub turnOf : Request → LineTurn
 turnOf q = record { line = lineFor q; space = replyRoom }
 

@@ -23,15 +23,15 @@ recordOf A (itemWith a r ∷ l) = pick (eqb A a) r (recordOf A l)
 
 -- ── what memoranda say, of digests that change ──
 
--- "y is above x, and x changed to x' makes y into y'"
+-- U1 of what stands at a place and above it, before and after
 abbrev pub sayU1 : (x y : Edit) → Memo
 sayU1 x y = u1 (x .was) (y .was) (x .becomes) (y .becomes)
 
--- "the same as U1 for two separate places"
+-- U2, the same of two places
 abbrev pub sayU2 : (a b y : Edit) → Memo
 sayU2 a b y = u2 (a .was) (b .was) (y .was) (a .becomes) (b .becomes) (y .becomes)
 
--- "the two roots stand for equally good rings"
+-- EI of two roots
 abbrev pub sayEI : (y : Edit) → Memo
 sayEI y = ei (y .was) (y .becomes)
 
@@ -98,8 +98,7 @@ module _ (D : List ℕ → Dig) (s : Registers) where
 
   -- ── insert and remove ──
 
-  -- Place: "x1 is leaf(A,A',ω), x1' is leaf(A,B',ω), x2 is leaf(A',B',0), x2' is 0". Here item A stands between B and B′: the
-  -- leaf of B leads past it, and its own leaf goes
+  -- A place's leaves (§5.2.5). Here item A stands between B and B′: the leaf of B leads past it, and its own leaf goes
   abbrev pub relinked : (B A B′ : ℕ) (ω : Dig) → Edit
   relinked B A B′ ω = record { was = digestOf D (leaf B A ω); becomes = digestOf D (leaf B B′ ω) }
 
@@ -129,7 +128,7 @@ module _ (D : List ℕ → Dig) (s : Registers) where
   alone A = record { was = nought; becomes = digestOf D (leaf A A nought) }
 
   -- into the empty list by first; else the leaf whose gap holds A becomes two leaves under one node, and place is turned
-  -- round: "turned round, the EI inserts"
+  -- round, so that it inserts (§5.2.8)
   abbrev pub insertLines : (A : ℕ) → Tree → Items → List Request
   insertLines A T [] = first A ∷ takeOver (alone A) ∷ []
   insertLines A T (i ∷ l) =

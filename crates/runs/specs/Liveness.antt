@@ -1,5 +1,5 @@
--- Demand 3, second half: "Until then, once open and while the counter is below its top, every legal change and every question
--- on a number above 0 has a run of honest lines that is accepted."
+-- Honest lines (§8.3.8; 7.4): until the run ends, while the module is open and below the counter's top, every legal wish has lines
+-- that are accepted and do just that.
 --
 -- `Grantable` says that there are such lines: `AllGrantable` at any world that a tree stands for, `LiveOrEnded` after any run until
 -- it has ended. Believing those takes nothing of `Frames`, `Ways`, `Honest` and `TreesAfter`; that their functions give such lines is
@@ -28,7 +28,7 @@ use Rattle.runs.specs.Frames.{linesOf}
 use Rattle.runs.specs.Honest.{honestLines}
 use Rattle.runs.specs.TreesAfter.{treeAfter}
 
--- "each memorandum being read here by the last line that issued it": the same world, its book with the latest line first
+-- §7.4.3: each memorandum read by the last line that issued it, so the same world, its book with the latest line first
 abbrev pub latestFirst : World → World
 latestFirst w =
     record {
@@ -39,12 +39,12 @@ latestFirst w =
       changed = w .changed;
     }
 
--- all of some memoranda are in a book
+-- all of some memoranda are in a book: they were issued (§7.4.1)
 abbrev pub AllIssued : List Dig → List Issue → Type 0
 AllIssued [] b = Unit {0}
 AllIssued (m ∷ ms) b = (isIssued m b ≡ true) × AllIssued ms b
 
--- turns that take these lines, each with "reply space of 195 bytes or more"
+-- §7.4.4: turns that take these lines, each with reply space of 195 bytes or more
 abbrev pub Spaced : (lines : List (List ℕ)) → List LineTurn → Type 0
 Spaced [] [] = Unit {0}
 Spaced [] (t ∷ us) = ⊥

@@ -12,7 +12,7 @@ use Rattle.rings.specs.Lists.{insert, remove, putRecord}
 use Rattle.runs.specs.Run.{Items}
 use Rattle.runs.specs.Wishes.{Wish, insertItem, removeItem, swapPlaces, setRecord, clearRecord, askAbout}
 
--- the list: "the new record is [c+1, v2, v3, v4], or empty for clear"
+-- the list, with a new record by §5.2.10
 abbrev pub itemsAfter : Registers → Items → Wish → Items
 itemsAfter s l (insertItem A) = insert A emptyRecord l
 itemsAfter s l (removeItem A) = remove A l
@@ -53,7 +53,7 @@ pub record Exchanged (A B : ℕ) (before after : List TreeLeaf) : Type 0 where
   pub was : before ≡ in-front ++ (left ∷ (between ++ (right ∷ back)))
   pub becomes : after ≡ in-front ++ (right ∷ (between ++ (left ∷ back)))
 
--- "to swap the places of two listed items". Of the other wishes the list says it all: where their leaves stand is free
+-- two items change places (§7.3.3, §7.4.2). Of the other wishes the list says it all: where their leaves stand is free
 abbrev pub LeavesMoved : Wish → (before after : Tree) → Type 0
 LeavesMoved (insertItem A) T U = Unit {0}
 LeavesMoved (removeItem A) T U = Unit {0}

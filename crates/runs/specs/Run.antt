@@ -1,4 +1,4 @@
--- A run of lines, and what document 01, "Replay", makes of it. All of it for any digest D.
+-- A run of lines, and its replay (docs/PROTOCOL.md, 7.1 and 7.2). All of it for any digest D.
 use mathlib.Core.Bool.{Bool, false}
 use mathlib.Core.List.{List, [], _∷_, _++_}
 use Prim.Native.Nat.{ℕ, _+_}
@@ -35,7 +35,7 @@ pub data BookReading : Type 0 where
   earliest : BookReading
   last : BookReading
 
--- "A memorandum stands for what the earliest line that issued it does"
+-- §7.1.2: a memorandum stands for what the earliest line that issued it does
 abbrev pub ofRuns : BookReading
 ofRuns = earliest
 
@@ -52,7 +52,7 @@ abbrev pub isIssued : (m : Dig) → List Issue → Bool
 isIssued m [] = false
 isIssued m (i ∷ b) = either (same (i .memorandum) m) (isIssued m b)
 
--- what a line does that issues a memorandum, the others being read in the book b
+-- what a line does that issues a memorandum (§7.2.1 to §7.2.5), the others being read in the book b
 abbrev pub meaning : List Issue → ListChange → List Step
 meaning b Does.nothing = []
 meaning b (Does.adds A) = insertion A ∷ []
@@ -72,7 +72,7 @@ pub record World : Type 0 where
   pub changed : ℕ
 
 module _ (D : List ℕ → Dig) where
-  -- "a line issues the memorandum its reply lists"
+  -- §7.1.1: what a line issues
   abbrev pub issuedBy : World → Effect → List Issue
   issuedBy w none′ = []
   issuedBy w (issues t c) =
@@ -80,8 +80,8 @@ module _ (D : List ℕ → Dig) where
   issuedBy w (adopts m) = []
   issuedBy w (changes A r) = []
 
-  -- "a memorandum stands for what the earliest line that issued it does, and adopt does that"; "set and clear change
-  -- one record"
+  -- the list after a line: adopt does what its memorandum stands for (§7.2.6), set and clear change one record (§7.2.7), every other
+  -- line leaves it as it is (§7.2.8)
   abbrev pub replayed : World → Effect → Items
   replayed w none′ = w .items
   replayed w (issues t c) = w .items

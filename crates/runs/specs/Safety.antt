@@ -28,8 +28,8 @@ abbrev pub questionIn : List ℕ → ℕ
 questionIn f = numberOf (take 8 (drop 1 f))
 
 module _ (D : List ℕ → Dig) where
-  -- "the root is that of a tree whose leaves form one ascending ring of distinct item numbers and hold exactly the list
-  -- got by replaying"; "the counter is the number of accepted record changes"; and what is listed fits lines
+  -- the root is that of a tree whose leaves form one ascending ring (§8.3.1) and hold exactly the replayed list (§8.3.2); the counter is
+  -- the number of record changes (§8.3.3); and what is listed fits lines
   pub record TreeStands (w : World) : Type 0 where
     pub tree : Tree
     pub root : hashOf D tree ≡ w .registers .root
@@ -42,7 +42,7 @@ module _ (D : List ℕ → Dig) where
   abbrev pub Neighbours : (A A′ : ℕ) → Items → Type 0
   Neighbours A A′ l = (r : Record) × OnList A r l × List·Memᴰ (points A A′ (recordHash D r)) (ring (recordHash D) l)
 
-  -- "every accepted answer on a record, an empty item or a gap is true of that list"
+  -- §8.3.4: an accepted answer is true of the list
   abbrev pub TrueFinding : (q : ℕ) → Finding → Items → Type 0
   TrueFinding q (Recorded A r) l = (q ≡ A .0) × (blank r ≡ false) × OnList (A .0) r l
   TrueFinding q (Empty A) l = (q ≡ A .0) × OnList (A .0) emptyRecord l

@@ -1,5 +1,4 @@
--- What fits lines: document 01, "Strings and digests" ("Numbers are 8 bytes"; "A record with v1 = 0 and another field not 0 is
--- malformed"), said of numbers, of records and of all that is listed.
+-- What fits lines (§3.1.1, §3.4.3), said of numbers, of records and of all that is listed.
 use mathlib.Core.Path.{_≡_}
 use mathlib.Core.Bool.{false}
 use Prim.Native.Nat.{ℕ, _<_, _^_}
@@ -9,7 +8,7 @@ use Rattle.paper.specs.Strings.{malformed}
 use Rattle.rings.specs.Lists.{OnList}
 use Rattle.runs.specs.Run.{Items}
 
--- "Numbers are 8 bytes"
+-- a number of 8 bytes
 abbrev pub InEightBytes : ℕ → Type 0
 InEightBytes n = n < 2 ^ 64
 

@@ -64,7 +64,7 @@ wayTo p (branch l r) = pick (has p l) (wayTo p l ++ (onRight r ∷ [])) (wayTo p
 
 -- ── a way as lines carry it ──
 
--- "Bit j of sides, lowest bit first, is 1 if sibling j stands on the left."
+-- the sides of a way as a number (§5.2.2)
 abbrev pub sidesOf : Way → ℕ
 sidesOf [] = 0
 sidesOf (onLeft S ∷ p) = 1 + 2 * sidesOf p
@@ -81,7 +81,7 @@ rise D [] x = x
 rise D (onLeft S ∷ p) x = rise D p (H D (hashOf D S) x)
 rise D (onRight S ∷ p) x = rise D p (H D x (hashOf D S))
 
--- "up to 64 siblings": a way of any length as a lowest path and paths above it
+-- a way of any length as a lowest path and paths above it, each of at most 64 siblings (§5.2.1)
 pub record WayInPaths : Type 0 where
   pub lowest : Way
   pub higher : List Way

@@ -1,5 +1,4 @@
--- What one may want of the list: document 01, "Replay" ("Legal: ..") and demand 3 ("every legal change and every question on
--- a number above 0").
+-- What one may want of the list, and what of it is legal (docs/PROTOCOL.md, 7.3).
 use mathlib.Core.Path.{_≡_}
 use mathlib.Core.Bool.{false}
 use mathlib.Core.Logic.{_≢_}
@@ -22,8 +21,7 @@ pub data Wish : Type 0 where
 abbrev pub IsListed : (A : ℕ) → Items → Type 0
 IsListed A l = (r : Record) × OnList A r l
 
--- "to insert a number that isn't 0 and isn't listed, to remove a listed empty item, to swap the places of two listed items,
--- to set a listed item, to clear a recorded one"; "every question on a number above 0"
+-- §7.3.1 to §7.3.6, row by row
 abbrev pub LegalWish : Items → Wish → Type 0
 LegalWish l (insertItem A) = (0 < A) × InEightBytes A × Unlisted A l
 LegalWish l (removeItem A) = OnList A emptyRecord l

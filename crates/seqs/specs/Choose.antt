@@ -1,4 +1,4 @@
--- Choices by a test, for definitions that go by `ltb`, `leb` and `eqb` as documents go by "if".
+-- Choices by a test, for definitions that go by `ltb`, `leb` and `eqb` as papers go by "if".
 use mathlib.Core.Bool.{Bool, true, false}
 use mathlib.Core.Path.{_≡_, refl}
 

@@ -54,15 +54,15 @@ writtenFor ps s d o = wroteFor ps (record { session = sessionWith s d 0; out = o
 
 -- ── the statements ──
 
--- The law: however the input is cut into pieces, what is written is the replies to the lines of the whole input, "one reply
--- line for each". The line's space has a byte more than the longest line, the output has room for a reply or more, and
+-- The law (§4.1.6, §8.1.1): however the input is cut into pieces, what is written is the replies to the lines of the whole input, one for
+-- each. The line's space has a byte more than the longest line, the output has room for a reply or more, and
 -- neither what they hold at first nor how large they are beyond that shows.
 abbrev pub WholeInput : Type 0
 WholeInput = (ps : List (List ℕ)) (s : Registers) (line out : List ℕ)
     → 2 * longestFrame < length line → replyRoom ≤ length out
     → writtenFor ps s line out ≡ repliesTo s (inputLines (flatten ps))
 
--- "two outcomes allowed by the same statement are equal", for `serve` and for `finish`
+-- §8.4.2: two outcomes that the contract of `serve`, or of `finish`, allows are equal
 abbrev pub OneServing : Type 0
 OneServing = (t : Stand) (r r′ : Served) (line line′ out out′ : List ℕ) → ServedAs t r line out → ServedAs t r′ line′ out′
     → (r ≡ r′) × (line ≡ line′) × (out ≡ out′)
@@ -71,7 +71,7 @@ abbrev pub OneFinish : Type 0
 OneFinish = (s : Registers) (held out : List ℕ) (a a′ : Answered) (o o′ : List ℕ)
     → FinishedAs s held out a o → FinishedAs s held out a′ o′ → (a ≡ a′) × (o ≡ o′)
 
--- `finish` with something held and an output of 194 bytes or less: refusal 15, nothing changed and "nothing written"
+-- `finish` with something held and an output of 194 bytes or less: refusal 15, nothing changed and nothing written
 abbrev pub FinishWithoutRoom : Type 0
 FinishWithoutRoom = (s : Registers) (b : ℕ) (l out : List ℕ) (a : Answered) (o : List ℕ) → length out < replyRoom
     → FinishedAs s (b ∷ l) out a o

@@ -85,8 +85,7 @@ pub record RepliedAs (s : Registers) (l : List ℕ) (w : ℕ) (o : List ℕ) (a 
 
 -- ── the end of the input ──
 
--- "The program takes a last piece without 0A, if it isn't empty, as if 0A followed": what it comes to in an output of so many
--- bytes, which is its reply space. So an output of 194 bytes or less gets refusal 15, as any reply space of the module: nothing
+-- A last piece without 0A (§4.1.5): what it comes to in an output of so many bytes, which is its reply space. So an output of 194 bytes or less gets refusal 15, as any reply space of the module: nothing
 -- is written, and the registers are as they were (`FinishWithoutRoom` of Program). Where nothing is held there is no line: the
 -- registers are as they were, and there is no refusal, no reply and no block.
 abbrev pub answerAtEnd : Registers → (held : List ℕ) (room : ℕ) → Answered

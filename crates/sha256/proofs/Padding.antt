@@ -1,4 +1,4 @@
--- The padded message: that it is the one of FIPS 180-4, section 5.1.1, in as many blocks as document 01
+-- The padded message: that it is the one of FIPS 180-4, section 5.1.1, in as many blocks as the paper
 -- counts, and its bytes by their places.
 use mathlib.Core.Path.{_≡_, refl, ap, _∙_}
 use mathlib.Core.List.{List, _++_}

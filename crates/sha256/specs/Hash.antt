@@ -1,4 +1,4 @@
--- FIPS 180-4, section 6.2: the SHA-256 hash computation.
+-- The digest (§1.2.2). FIPS 180-4, section 6.2: the SHA-256 hash computation.
 use Prim.Native.Nat.{ℕ, zero, suc, _-_, _/_}
 use mathlib.Core.List.{List, [], _∷_, _++_}
 use lib.Dec.{ltb}

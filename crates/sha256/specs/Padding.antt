@@ -15,12 +15,12 @@ zeros n = (119 - n % 64) % 64
 unfoldable pub pad : List ℕ → List ℕ
 pad m = m ++ (0x80 ∷ (replicate (zeros (length m)) 0 ++ be64 (8 * length m)))
 
--- document 01, "Strings and digests": the blocks of a message of n bytes
+-- §3.7.2: the blocks of a message of n bytes
 abbrev pub blocks : ℕ → ℕ
 blocks n = (n + 8) / 64 + 1
 
--- What 5.1.1 asks of a padded message, and that its blocks are as many as 01 counts: shown once over
--- the message (`proofs/Padding`, `padded`). With l = 8 n bits, k is 7 + 8 times the zero bytes.
+-- What 5.1.1 asks of a padded message, and that its blocks are as many as `blocks` counts: shown once for every length (§8.4.5),
+-- over the message (`proofs/Padding`, `padded`). With l = 8 n bits, k is 7 + 8 times the zero bytes.
 pub record Padded (m : List ℕ) : Type 0 where
   pub whole : length (pad m) ≡ blocks (length m) * 64
   pub message : take (length m) (pad m) ≡ m
