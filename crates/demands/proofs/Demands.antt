@@ -1,4 +1,4 @@
--- The three demands, from the laws of `module`, `lines`, `runs` and `session`. Calls that meet the contract go along the run of their
+-- The three demands, from the laws of `module`, `lines` and `runs`. Calls that meet the contract go along the run of their
 -- lines: what comes back is what the run's definition says at the registers that the calls before left.
 use mathlib.Core.Path.{_≡_, refl, sym, ap, subst, _∙_}
 use mathlib.Core.Bool.{Bool, true, false}
@@ -11,26 +11,29 @@ use borrow.Author.Tests.{eqb-true}
 use lib.Dec.{eqb}
 use lib.ListN.{length, drop}
 use Rattle.seqs.specs.Choose.{pick}
-use Rattle.hex.specs.Hex.{lineOf}
+use Rattle.hex.specs.Hex.{bytesOf, lineOf}
 use Rattle.sha256.specs.Hash.{sha256}
 use Rattle.sha256.proofs.Digests.{sha256-length}
 use Rattle.paper.specs.declared.Registers.{Registers}
 use Rattle.paper.specs.Strings.{Dig}
-use Rattle.paper.specs.Module.{unopened, answerTo, replyLine, spaceAfter}
+use Rattle.paper.specs.Answers.{findingIn}
+use Rattle.paper.specs.Module.{answerTo, replyLine, spaceAfter}
 use Rattle.paper.specs.Refusals.{replyRoom, top}
 use Rattle.paper.proofs.Room.{room}
 use Rattle.lines.proofs.Follows.{read-is-first, write-is-first}
 use Rattle.lines.proofs.RoundTrip.{written-reads, read-writes, one-line}
 use Rattle.module.specs.declared.Answered.{Answered}
 use Rattle.module.specs.Answering.{answeredOf}
-use Rattle.module.proofs.Follows.{refusal-is-first, refusal-keeps, only-the-reply, reply-fits, under-the-ceiling, older-memorandum, opens, refusing-breaks}
-use Rattle.runs.specs.Run.{after}
+use Rattle.module.specs.Laws.{Promised}
+use Rattle.module.proofs.Follows.{refusal-is-first, refusal-keeps, only-the-reply, reply-fits, opens, refusing-breaks}
+use Rattle.runs.specs.Run.{Items, toldAt, after}
+use Rattle.runs.specs.Endings.{Ending}
+use Rattle.runs.specs.Safety.{questionIn, TreeStands, TrueAnswer, AllFair, SafeRun}
+use Rattle.runs.specs.Liveness.{TrueReply, findingGiven, nothing-listed}
 use Rattle.runs.proofs.Runs.{safety}
 use Rattle.runs.proofs.Live.{liveness}
-use Rattle.runs.proofs.Also.{also}
-use Rattle.session.specs.Replies.{toldOf, registersBehind}
-use Rattle.session.proofs.Whole.{registers-append}
-use Rattle.demands.specs.Demands.{Call, registersBehindCalls, Kept, turnsOfCalls, OneReply, AsDefined, RepliedAlong, HoldsAfter, ByValue, InPlace, MeetsByValue, MeetsInPlace, CallInput, callsByValue, callsInPlace, withReplyRoom, inOrder, Demands}
+use Rattle.demands.specs.Demands.{Call, registersBehindCalls, Kept, turnsOfCalls, OneReply, AsDefined, IsQuestion, AnsweredTrue, AllAnsweredTrue, HoldsAfter, Demands}
+use Rattle.demands.specs.Beyond.{RepliedAlong}
 
 -- ── one call ──
 
@@ -60,15 +63,11 @@ as-defined : AsDefined
 as-defined s line space after o p =
     (ap (λ (x : Answered). x .registers) (p .returned), p .left, ap (λ (x : Answered). x .blocks) (p .returned))
 
--- the function that the contract describes meets it
-as-said : ByValue
-as-said s line space =
+-- what the contract describes meets it
+some-answer : (s : Registers) (line space : List ℕ) → (o : Answered) × (left : List ℕ) × Promised s line space o left
+some-answer s line space =
     let t = answerTo sha256 s line (length space) in
-    (answeredOf t, spaceAfter t space)
-
-as-said-meets : MeetsByValue as-said
-unfolding as-said
-as-said-meets s line space = record { returned = refl; left = refl }
+    (answeredOf t, spaceAfter t space, record { returned = refl; left = refl })
 
 -- ── calls one after the other ──
 
@@ -78,7 +77,7 @@ along k (c ∷ cs) h =
     ap (λ (x : Answered). x .registers) (h .0 .returned)
     ∙ ap (λ (s : Registers). answerTo sha256 s (c .line) (length (c .space)) .after) (along k cs (h .1))
 
-replied : (k : Dig) (cs : List Call) → Kept k cs → RepliedAlong k cs
+pub replied : (k : Dig) (cs : List Call) → Kept k cs → RepliedAlong k cs
 replied k [] h = tt
 replied k (c ∷ cs) h =
     let e = along k cs (h .1) in (
@@ -87,31 +86,42 @@ replied k (c ∷ cs) h =
       replied k cs (h .1),
     )
 
-holds : (k : Dig) (cs : List Call) → Kept k cs → HoldsAfter k cs
+-- §8.3.4: what came back is the run's, and the run's answers are true
+reply-true : (k : Dig) (c : Call) (cs : List Call) → RepliedAlong k (c ∷ cs) → AllFair sha256 k (turnsOfCalls (c ∷ cs)) → AnsweredTrue k c cs
+reply-true k c cs h f accepted asks =
+    let told = toldAt sha256 (after sha256 k (turnsOfCalls cs)) (record { line = c .line; space = length (c .space) }) in
+    let zero-refusal : told .refusal ≡ 0 = sym (ap (λ (x : Answered). x .refused) (h .0)) ∙ accepted in
+    let line-is : replyLine told ≡ lineOf (told .says) = ap (λ (n : ℕ). pick (eqb n 15) [] (lineOf (told .says))) zero-refusal in
+    let true-answer = f .0 .true-answer zero-refusal in (
+      told .says,
+      h .1 ∙ ap (λ (r : List ℕ). r ++ drop (length r) (c .space)) line-is,
+      either-way (told .says) (after sha256 k (turnsOfCalls cs) .items) true-answer asks,
+    )
+  where
+    either-way : (says : List ℕ) (l : Items) → TrueAnswer sha256 (bytesOf (c .line)) says l → IsQuestion (c .line)
+        → TrueReply sha256 (questionIn (bytesOf (c .line))) l says
+    either-way says l a (inl e) = findingGiven (findingIn (drop 1 says)) (a .ask e .1) (a .ask e .0)
+    either-way says l a (inr e) = nothing-listed (a .ask-of-none e .1) (a .ask-of-none e .0)
+
+replies-true : (k : Dig) (cs : List Call) → RepliedAlong k cs → AllFair sha256 k (turnsOfCalls cs) → AllAnsweredTrue k cs
+replies-true k [] h f = tt
+replies-true k (c ∷ cs) h f = (reply-true k c cs h f, replies-true k cs (h .2) (f .1))
+
+safe-calls : (k : Dig) (cs : List Call) → RepliedAlong k cs → Ending sha256 k (turnsOfCalls cs) ⊎ SafeRun sha256 k (turnsOfCalls cs)
+    → Ending sha256 k (turnsOfCalls cs) ⊎ (TreeStands sha256 (after sha256 k (turnsOfCalls cs)) × AllAnsweredTrue k cs)
+safe-calls k cs h (inl e) = inl e
+safe-calls k cs h (inr s) = inr (s .stands, replies-true k cs h (s .fair))
+
+pub holds : (k : Dig) (cs : List Call) → Kept k cs → HoldsAfter k cs
 holds k cs h =
     let e = along k cs h in
     record {
       registers = e;
-      replies = replied k cs h;
-      safe = safety .at-sha256 k (turnsOfCalls cs);
+      safe = safe-calls k cs (replied k cs h) (safety .at-sha256 k (turnsOfCalls cs));
       live = λ o b.
           liveness .at-sha256 .after-runs k (turnsOfCalls cs) (subst (λ (s : Registers). s .opened ≡ true) e o)
           (subst (λ (s : Registers). s .counter .0 < top) e b);
     }
-
-kept-by-value : (m : ByValue) → MeetsByValue m → (k : Dig) (is : List CallInput) → Kept k (callsByValue m k is)
-kept-by-value m h k [] = tt
-kept-by-value m h k (i ∷ is) = (h (registersBehindCalls k (callsByValue m k is)) (i .line) (i .space), kept-by-value m h k is)
-
-kept-in-place : (m : InPlace) → MeetsInPlace m → (k : Dig) (is : List CallInput) → Kept k (callsInPlace m k is)
-kept-in-place m h k [] = tt
-kept-in-place m h k (i ∷ is) = (h (registersBehindCalls k (callsInPlace m k is)) (i .line) (i .space), kept-in-place m h k is)
-
-in-session : (k : Dig) (ls : List (List ℕ)) → registersBehind (unopened k) (inOrder ls) ≡ after sha256 k (withReplyRoom ls) .registers
-in-session k [] = refl
-in-session k (l ∷ ls) =
-    registers-append (unopened k) (inOrder ls) (l ∷ [])
-    ∙ ap (λ (s : Registers). toldOf s l .after) (in-session k ls)
 
 pub demands : Demands
 demands =
@@ -129,19 +139,12 @@ demands =
       };
       demand-2 = record {
         as-defined = as-defined;
-        under-the-ceiling = under-the-ceiling;
-        older-memorandum = older-memorandum;
         one-line = one-line;
         written-reads = written-reads;
         read-writes = read-writes;
       };
       demand-3 = record {
-        some-function = (as-said, as-said-meets);
+        some-answer = some-answer;
         any-calls = holds;
-        by-value = λ m h k is. holds k (callsByValue m k is) (kept-by-value m h k is);
-        in-place = λ m h k is. holds k (callsInPlace m k is) (kept-in-place m h k is);
-        also = also .at-sha256;
-        anywhere = liveness .at-sha256 .anywhere;
-        in-session = in-session;
       };
     }

@@ -1,30 +1,28 @@
 -- What is promised, on one page: the three demands of docs/PROTOCOL.md, section 8, clause by clause. `proofs/Demands` shows all three.
 -- They speak of ANY function that meets the contract of `module::answer` or of `module::answer_here`, whatever its code: of what it was
--- given and what came back. The contract is `Promised`; the words in it are the paper's, as the crate `paper` defines them.
+-- given and what came back. The contract is `Promised`; the words in it are the paper's, as the crate `paper` defines them. What
+-- follows besides is in `Beyond`: one can believe the demands without reading it.
 use mathlib.Core.Path.{_≡_}
 use mathlib.Core.Bool.{true}
 use mathlib.Core.List.{List, [], _∷_, _++_}
 use mathlib.Core.Logic.{_⊎_}
 use Prim.Native.Nat.{ℕ, _<_}
 use lib.ListN.{length, drop}
-use Rattle.hex.specs.Hex.{lineOf}
+use Rattle.hex.specs.Hex.{bytesOf, lineOf}
 use Rattle.sha256.specs.Hash.{sha256}
 use Rattle.paper.specs.declared.Registers.{Registers}
 use Rattle.paper.specs.Strings.{Dig, cost}
+use Rattle.paper.specs.Requests.{kindOf}
 use Rattle.paper.specs.Refusals.{replyRoom, top}
-use Rattle.paper.specs.Module.{unopened, answerTo, replyLine, spaceAfter}
+use Rattle.paper.specs.Module.{unopened, answerTo, replyLine}
 use Rattle.lines.specs.Laws.{ReadIsFirst, WriteIsFirst}
 use Rattle.lines.specs.RoundTrip.{WrittenReads, ReadWrites, OneLine}
 use Rattle.module.specs.declared.Answered.{Answered}
-use Rattle.module.specs.declared.Replied.{Replied}
-use Rattle.module.specs.Answering.{answeredWith, answeredOf}
-use Rattle.module.specs.Laws.{Promised, RefusalIsFirst, RefusalKeeps, OnlyTheReply, ReplyFits, UnderTheCeiling, SecretOpens, RefusingBreaks, OlderMemorandum}
+use Rattle.module.specs.Laws.{Promised, RefusalIsFirst, RefusalKeeps, OnlyTheReply, ReplyFits, SecretOpens, RefusingBreaks}
 use Rattle.runs.specs.Run.{LineTurn, after}
 use Rattle.runs.specs.Endings.{Ending}
-use Rattle.runs.specs.Safety.{SafeRun}
-use Rattle.runs.specs.Liveness.{AllGrantable, LiveAt}
-use Rattle.runs.specs.Also.{AlsoFor}
-use Rattle.session.specs.Replies.{registersBehind}
+use Rattle.runs.specs.Safety.{questionIn, TreeStands}
+use Rattle.runs.specs.Liveness.{TrueReply, LiveAt}
 
 -- ── what the demands are of ──
 
@@ -84,8 +82,6 @@ AsDefined = (s : Registers) (line space after : List ℕ) (o : Answered) → Pro
 
 pub record SecondDemand : Type 0 where
   pub as-defined : AsDefined
-  pub under-the-ceiling : UnderTheCeiling
-  pub older-memorandum : OlderMemorandum
   -- §8.2.2: lines and frames round-trip
   pub one-line : OneLine
   pub written-reads : WrittenReads
@@ -93,86 +89,36 @@ pub record SecondDemand : Type 0 where
 
 -- ── the third demand ──
 
--- what came back from each call, and its reply space afterwards, are those of the run of these lines
-abbrev pub RepliedAlong : (secret : Dig) → List Call → Type 0
-RepliedAlong k [] = Unit {0}
-RepliedAlong k (c ∷ cs) =
-    let told = answerTo sha256 (after sha256 k (turnsOfCalls cs) .registers) (c .line) (length (c .space)) in
-    (c .came ≡ answeredOf told) × (c .left ≡ spaceAfter told (c .space)) × RepliedAlong k cs
+-- a line that asks: kind 0e or 0f
+abbrev pub IsQuestion : (line : List ℕ) → Type 0
+IsQuestion line = (kindOf (bytesOf line) ≡ 0x0e) ⊎ (kindOf (bytesOf line) ≡ 0x0f)
+
+-- §8.3.4, of a call behind others: where a question was accepted, the reply space begins with the line of an answer that is true of
+-- its number and of the list as it was then
+abbrev pub AnsweredTrue : (secret : Dig) (c : Call) (before : List Call) → Type 0
+AnsweredTrue k c cs =
+    c .came .refused ≡ 0 → IsQuestion (c .line) → (says : List ℕ) × (c .left ≡ lineOf says ++ drop (length (lineOf says)) (c .space))
+    × TrueReply sha256 (questionIn (bytesOf (c .line))) (after sha256 k (turnsOfCalls cs) .items) says
+
+abbrev pub AllAnsweredTrue : (secret : Dig) → List Call → Type 0
+AllAnsweredTrue k [] = Unit {0}
+AllAnsweredTrue k (c ∷ cs) = AnsweredTrue k c cs × AllAnsweredTrue k cs
 
 -- §8.3.1 to §8.3.7: after any lines from an unopened module, until something one can show
 pub record HoldsAfter (k : Dig) (cs : List Call) : Type 0 where
-  -- the registers are those of the run of these lines, and so are the replies
+  -- the registers are those of the run of these lines
   pub registers : registersBehindCalls k cs ≡ after sha256 k (turnsOfCalls cs) .registers
-  pub replies : RepliedAlong k cs
-  -- the root is that of a tree that holds just the replayed list, the counter counts, every answer was true and every change legal
-  pub safe : Ending sha256 k (turnsOfCalls cs) ⊎ SafeRun sha256 k (turnsOfCalls cs)
+  -- their root is that of a tree that holds just the replayed list, their counter counts the record changes, and every answer was true
+  pub safe : Ending sha256 k (turnsOfCalls cs) ⊎ (TreeStands sha256 (after sha256 k (turnsOfCalls cs)) × AllAnsweredTrue k cs)
   -- §8.3.8: while open and below the top, every legal wish has honest lines
   pub live : registersBehindCalls k cs .opened ≡ true → registersBehindCalls k cs .counter .0 < top
       → Ending sha256 k (turnsOfCalls cs) ⊎ LiveAt sha256 (after sha256 k (turnsOfCalls cs))
 
--- a function on registers by value, and one on registers where they lie, which leaves registers beside what it returns; each leaves
--- a reply space
-abbrev pub ByValue : Type 0
-ByValue = Registers → (line space : List ℕ) → Answered × List ℕ
-
-abbrev pub InPlace : Type 0
-InPlace = Registers → (line space : List ℕ) → Registers × Replied × List ℕ
-
-abbrev pub MeetsByValue : ByValue → Type 0
-MeetsByValue m = (s : Registers) (line space : List ℕ) → Promised s line space (m s line space .0) (m s line space .1)
-
-abbrev pub MeetsInPlace : InPlace → Type 0
-MeetsInPlace m = (s : Registers) (line space : List ℕ)
-    → Promised s line space (answeredWith (m s line space .0) (m s line space .1)) (m s line space .2)
-
--- what was handed over at a call: a line and a reply space
-pub record CallInput : Type 0 where
-  pub line : List ℕ
-  pub space : List ℕ
-
--- the calls of such a function, one after the other, the latest first
-abbrev pub callByValue : ByValue → Registers → CallInput → Call
-callByValue m s i =
-    let o = m s (i .line) (i .space) in
-    record { line = i .line; space = i .space; came = o .0; left = o .1 }
-
-abbrev pub callsByValue : ByValue → (secret : Dig) → List CallInput → List Call
-callsByValue m k [] = []
-callsByValue m k (i ∷ is) = callByValue m (registersBehindCalls k (callsByValue m k is)) i ∷ callsByValue m k is
-
-abbrev pub callInPlace : InPlace → Registers → CallInput → Call
-callInPlace m s i =
-    let o = m s (i .line) (i .space) in
-    record { line = i .line; space = i .space; came = answeredWith (o .0) (o .1); left = o .2 }
-
-abbrev pub callsInPlace : InPlace → (secret : Dig) → List CallInput → List Call
-callsInPlace m k [] = []
-callsInPlace m k (i ∷ is) = callInPlace m (registersBehindCalls k (callsInPlace m k is)) i ∷ callsInPlace m k is
-
--- lines as a session feeds them, the latest first, each with room for its reply
-abbrev pub withReplyRoom : List (List ℕ) → List LineTurn
-withReplyRoom [] = []
-withReplyRoom (l ∷ ls) = record { line = l; space = replyRoom } ∷ withReplyRoom ls
-
-abbrev pub inOrder : List (List ℕ) → List (List ℕ)
-inOrder [] = []
-inOrder (l ∷ ls) = inOrder ls ++ (l ∷ [])
-
 pub record ThirdDemand : Type 0 where
-  -- there is a function that meets the contract, so what follows is of something
-  pub some-function : (m : ByValue) × MeetsByValue m
-  -- any calls that each meet the contract
+  -- every line has an answer that meets the contract, so what follows is of something
+  pub some-answer : (s : Registers) (line space : List ℕ) → (o : Answered) × (left : List ℕ) × Promised s line space o left
+  -- any calls that each meet it
   pub any-calls : (k : Dig) (cs : List Call) → Kept k cs → HoldsAfter k cs
-  -- so any function that meets it, by value or in place
-  pub by-value : (m : ByValue) → MeetsByValue m → (k : Dig) (is : List CallInput) → HoldsAfter k (callsByValue m k is)
-  pub in-place : (m : InPlace) → MeetsInPlace m → (k : Dig) (is : List CallInput) → HoldsAfter k (callsInPlace m k is)
-  -- what an ending is and is not, that the root settles the list, what every memorandum means, and the other laws of runs
-  pub also : AlsoFor sha256
-  -- honest lines from any registers, tree and list that stand, with no run before them
-  pub anywhere : AllGrantable sha256
-  -- and the registers along a session's lines (`session::serve`) are a run's
-  pub in-session : (k : Dig) (ls : List (List ℕ)) → registersBehind (unopened k) (inOrder ls) ≡ after sha256 k (withReplyRoom ls) .registers
 
 -- ── all three ──
 pub record Demands : Type 0 where
