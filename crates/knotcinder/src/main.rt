@@ -15,13 +15,33 @@ struct Left {
     said: bool,
 }
 
-// The one place that writes. No contract can say what a call of the system does with these bytes; so the caller has to show
-// that they are exactly the replies due, and hands over what shows it: the registers before, the bytes held of a line, and the
-// part of the input behind them that the replies are for.
+// Why the program stops before the end of its input is said in words on standard error, as `main` hands no status on:
+// `bin/knotcinder` makes one of them. Where they cannot be written either, nothing is left to be said.
+fn tell_unread() {
+    io::write_all(
+        2,
+        b"knotcinder: standard input could not be read; the program stops here, and a line whose end was not read gets no reply\n",
+    );
+}
+
+fn tell_unwritten() {
+    io::write_all(
+        2,
+        b"knotcinder: a reply could not be written; the program stops here, and a line without a whole reply gets none\n",
+    );
+}
+
+// The one place that writes replies. No contract can say what a call of the system does with these bytes; so the caller has to
+// show that they are exactly the replies due, and hands over what shows it: the registers before, the bytes held of a line, and
+// the part of the input behind them that the replies are for.
 fn say(r: Registers, held: &[u8], part: &[u8], replies: &[u8]) -> bool
     requires { ⌜ Due r (now held) (now part) (now replies) ⌝ }
 {
-    io::write_all(1, replies)
+    let written = io::write_all(1, replies);
+    if !written {
+        tell_unwritten();
+    }
+    written
 }
 
 // Answers a piece of input: as long as it has bytes left, lines are served and their replies written. What is held before a
@@ -79,8 +99,8 @@ fn end(r: Registers, line: &[u8], held: usize, out: &mut [u8])
     }
 }
 
-// Reads to the end of the input. Where a read or a write fails it stops; what is then held of a line is not answered, as
-// nobody knows how that line goes on.
+// Reads to the end of the input. Where a read or a write fails it says so and stops; what is then held of a line is not
+// answered, as nobody knows how that line goes on.
 // A proved loop has to end, and nothing says that input does: the turns are counted down from a number that no run uses up.
 fn run(input: &mut [u8], line: &mut [u8], kept: &mut [u8], out: &mut [u8])
     requires { ⌜ (longestLine < length (now line)) × (length (now line) ≤ length (now kept)) × (replyRoom ≤ length (now out)) ⌝ }
@@ -91,6 +111,7 @@ fn run(input: &mut [u8], line: &mut [u8], kept: &mut [u8], out: &mut [u8])
     while turns > 0 {
         let got = libc::read(0, input);
         if got < 0 {
+            tell_unread();
             return;
         }
         let n = io::count(got, input);

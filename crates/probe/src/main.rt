@@ -175,6 +175,14 @@ fn print_answer(space: &[u8], n: usize) {
     }
 }
 
+// A read that fails is not the end of the input.
+fn tell_unread() {
+    io::write_all(
+        2,
+        b"probe: standard input could not be read; the program stops here\n",
+    );
+}
+
 // Cuts question after question out of the piece at hand, and reads the next piece where it is used up.
 // A proved loop has to end, and nothing says that input does: the turns are counted down from a number
 // that no run uses up.
@@ -193,6 +201,10 @@ fn run(input: &mut [u8], line: &mut [u8]) {
             }
             Cut::More(len) => {
                 let got = libc::read(0, input);
+                if got < 0 {
+                    tell_unread();
+                    return;
+                }
                 size = io::count(got, input);
                 if size == 0 {
                     if 0 < len {

@@ -37,6 +37,14 @@ fn end(r: Registers, line: &[u8], held: usize) {
     print_reply(&reply, a.length, a.refused, a.blocks);
 }
 
+// A read that fails is not the end of the input.
+fn tell_unread() {
+    io::write_all(
+        2,
+        b"trace: standard input could not be read; the program stops here\n",
+    );
+}
+
 // Cuts line after line out of the piece at hand, and reads the next piece where it is used up, to the end of the input; the turns
 // are counted down, as a proved loop has to end.
 fn run(input: &mut [u8], line: &mut [u8]) {
@@ -55,6 +63,10 @@ fn run(input: &mut [u8], line: &mut [u8]) {
             }
             Cut::More(len) => {
                 let got = libc::read(0, input);
+                if got < 0 {
+                    tell_unread();
+                    return;
+                }
                 size = io::count(got, input);
                 if size == 0 {
                     end(registers, line, len);
