@@ -1,14 +1,18 @@
-# The two commands of the README, and what they are made of.
-.PHONY: test demo bench
+# What there is to call. `make` alone says it, from the words behind each target, and does nothing else.
+.PHONY: help demo test build bench
 
-# Every test, then every proof from nothing. The last line is `N passed, 0 failed`.
-test:
-	@scripts/test
+help: ## says this
+	@sed -n 's/^\([a-z]*\):.*## /make \1	/p' Makefile
 
-# Builds, and plays the accident that the module prevents.
-demo:
+demo: ## builds what is needed, and plays the accident that the module prevents
 	@scripts/demo
 
-# The proved digest timed beside a plain Rust one.
-bench:
+test: ## runs every test, then every proof from nothing; the last line is `N passed, 0 failed`
+	@scripts/test
+
+build: ## proves and builds the program of bin/knotcinder, and builds that of bin/explain
+	@scripts/build-program knotcinder
+	@bin/explain </dev/null
+
+bench: ## times the proved digest beside a plain Rust one
 	@scripts/bench-digest
