@@ -87,7 +87,7 @@ fn serve_piece(
     }
 }
 
-// Answers a last line without 0A, if anything is held of one, "as if 0A followed".
+// Answers a last line without 0A, if anything is held of one (§4.1.5).
 fn end(r: Registers, line: &[u8], held: usize, out: &mut [u8])
     requires { ⌜ (held ≤ length (now line)) × (longestLine < length (now line)) × (replyRoom ≤ length (now out)) ⌝ }
     requires { ⌜ Standing r (now line) held ⌝ }

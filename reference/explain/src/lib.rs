@@ -1,7 +1,7 @@
 //! What a line says, in one plain sentence: the kind of request, the items, masses
 //! with their units, and for a refusal what was wrong and what to do about it.
 //!
-//! The protocol's paper, "Lines" and "Refusals by number, and their order". Which lines are
+//! The protocol's paper, sections 4 to 6. Which lines are
 //! bad is decided by `frames`, and which numbers are refused by the checks of
 //! `module`; here that is only put into words. No secret and no root is known here:
 //! a sentence tells what a line says, and never that it is true.

@@ -2,8 +2,8 @@
 //! module's registers is compared with the request: a reply that cannot be the one to
 //! that request is said to be bad.
 //!
-//! The protocol's paper, "Lines" (the table, and the notes under it) and
-//! "Refusals by number, and their order".
+//! The protocol's paper, section 5 (the table of kinds, and the rules under it) and section 6
+//! (the refusals).
 
 use super::requests::certain_refusal;
 use super::words::{change, kilograms, load, memo, neighbours, now, number, record};

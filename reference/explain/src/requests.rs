@@ -2,7 +2,7 @@
 //! accept it. What the tablet sends with a request is its claim, so memoranda
 //! "should show" things here.
 //!
-//! The protocol's paper, "Lines": the table of kinds and the notes under it.
+//! The protocol's paper, 5.1 and 5.2: the table of kinds and the rules under it.
 
 use super::replies::wrong_with;
 use super::words::{

@@ -1,6 +1,6 @@
 //! Words for what stands in lines: numbers with their units, records, items, digests.
 //!
-//! The protocol's paper, "Strings and digests": a record is revision, mass in kg, offset of the
+//! The protocol's paper, §3.4.1: a record is revision, mass in kg, offset of the
 //! centre of gravity in mm, rigging code.
 
 use reference::strings::{Digest, One, Record, Two, ZERO};

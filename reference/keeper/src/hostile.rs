@@ -2,7 +2,7 @@
 //! each with the answer it aims at, so that a session can tell whether every way
 //! was really gone.
 //!
-//! The protocol's paper, "Refusals by number, and their order"; some are shortcuts that
+//! The protocol's paper, section 6; some are shortcuts that
 //! look right.
 
 use crate::random::Random;

@@ -2,7 +2,7 @@
 //! and the truth of every answer against it. It sees only lines and replies and
 //! knows no tree, no registers and no keeper.
 //!
-//! The protocol's paper, "Replay".
+//! The protocol's paper, 7.1 and 7.2.
 
 use reference::frames::{parse, unhex, Request};
 use reference::strings::{in_gap, Digest, Record};

@@ -1,7 +1,7 @@
 //! The keeper's tree: the tablet's own copy of the list, in a binary tree of any
 //! shape and depth, with empty places allowed anywhere.
 //!
-//! The protocol's paper, "Strings and digests": leaves are (A, A', ω) with A' the next
+//! The protocol's paper, 3.3 and 3.5: leaves are (A, A', ω) with A' the next
 //! number round the ring; H(u,0) = u, so an empty place changes no digest and the
 //! shape may be padded or tidied without a line.
 

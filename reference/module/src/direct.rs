@@ -3,7 +3,7 @@
 //!
 //! A session from an unopened module would need 2^64 - 1 changes for refusal 7, and a
 //! program's reply space is never under 195 bytes, so that its sessions show no 15 (the
-//! protocol's paper, "Refusals by number, and their order"). Here both are a call away.
+//! protocol's paper, 6.2). Here both are a call away.
 //!
 //! A direct call is the probe `mSSSS` and digits, or `hSSSS` and digits: the call with
 //! the registers by value, and where they lie. Here both are answered alike. SSSS is the

@@ -1,8 +1,8 @@
 //! Lines and frames: hexadecimal, the reader and the writer with their refusals,
 //! and a frame taken apart into the request it carries.
 //!
-//! The protocol's paper, "Lines" (the table of kinds), and refusals 1, 2, 3 and 15 of
-//! "Refusals by number, and their order".
+//! The protocol's paper, section 4 and 5.1 (the table of kinds), and refusals 1, 2, 3 and 15 of
+//! section 6.
 
 use crate::strings::{Digest, One, Record, Two};
 

@@ -1,8 +1,8 @@
 //! The module itself: registers, the sixteen kinds of request, the refusals in
 //! their order, the replies and the block counts.
 //!
-//! The protocol's paper, "The module's registers", "Lines" (the table and the notes under
-//! it) and "Refusals by number, and their order".
+//! The protocol's paper, section 2 (registers), section 5 (the table of kinds and the rules
+//! under it) and section 6 (refusals).
 
 use crate::frames::{line_of, parse, read_line, Frame, Request, LONGEST_FRAME, NO_SPACE};
 use crate::strings::{in_gap, Digest, Formed, One, Record, Tagged, Two, ZERO};

@@ -3,7 +3,7 @@
 //!
 //! Reading a line and writing a frame refuse 1, 2, 3 and then 15, and a refusal writes
 //! nothing; what is accepted writes its own bytes and leaves the others (the protocol's
-//! paper, "Lines"). So each probe of them names a space, and the answer shows every byte
+//! paper, 4.2 and 4.3). So each probe of them names a space, and the answer shows every byte
 //! of it afterwards.
 //!
 //! A probe is a line, one of

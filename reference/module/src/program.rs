@@ -1,7 +1,7 @@
 //! The program round the module: lines in, one reply line out for each.
 //!
 //! Any line, however damaged, gets one reply. A last piece without 0A is a line too,
-//! unless it is empty (the protocol's paper, "Lines").
+//! unless it is empty (the protocol's paper, §4.1.5 and §4.1.6).
 
 use crate::frames::LONGEST_FRAME;
 use crate::module::{answer, Answer, Registers, REPLY_SPACE};

@@ -15,7 +15,7 @@ const ROUND_CONSTANTS: [u32; 64] = cube_root_fractions();
 const INITIAL_STATE: [u32; 8] = square_root_fractions();
 
 /// The number of blocks SHA-256 works on a string of `length` bytes, padding and all
-/// (the protocol's paper, "Strings and digests").
+/// (the protocol's paper, §3.7.2).
 pub fn blocks(length: usize) -> u64 {
     (length as u64 + 8) / 64 + 1
 }

@@ -1,7 +1,7 @@
 //! The tagged strings of the protocol's paper, their digests, and the log of strings
 //! formed from which every block count is taken.
 //!
-//! The paper's "Strings and digests": the table of tags, H(u,v), the record's
+//! The protocol's paper, section 3: the table of tags, H(u,v), the record's
 //! hash, malformed records, the gap, and the count of SHA-256 blocks.
 
 use crate::sha256::{blocks, digest};

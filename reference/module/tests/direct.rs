@@ -1,5 +1,4 @@
-//! Direct calls of the module, their answers by hand: the protocol's paper, "Refusals by
-//! number, and their order".
+//! Direct calls of the module, their answers by hand: the protocol's paper, 6.2.
 
 #![forbid(unsafe_code)]
 

@@ -1,5 +1,5 @@
 //! The reader and the writer of lines: round trips on frames of every kind, and
-//! the order of their refusals. The protocol's paper, "Lines".
+//! the order of their refusals. The protocol's paper, 4.2 and 4.3.
 
 #![forbid(unsafe_code)]
 

@@ -1,5 +1,5 @@
 //! The probes of the reader, the writer and the digest, and their answers (the protocol's
-//! paper, "Lines"). The digests written out here were computed by another program.
+//! paper, 4.2 and 4.3). The digests written out here were computed by another program.
 
 #![forbid(unsafe_code)]
 

@@ -1,6 +1,6 @@
 //! `probes SEED N` writes N probes of the line reader, the line writer and the
 //! digest to standard output, the same ones for the same seed, to be run through
-//! two programs and compared (the protocol's paper, "Lines"). `probes --direct SEED N` writes
+//! two programs and compared (the protocol's paper, 4.2 and 4.3). `probes --direct SEED N` writes
 //! direct calls of the module instead.
 
 #![forbid(unsafe_code)]

@@ -1,6 +1,6 @@
 //! `probe` reads probes from standard input and writes one answer line for each:
 //! lines to be read and frames to be written in a stated space (the protocol's
-//! paper, "Lines"), and messages to be digested.
+//! paper, 4.2 and 4.3), and messages to be digested.
 
 #![forbid(unsafe_code)]
 

@@ -1,5 +1,5 @@
 //! `reference [--trace]` reads lines from standard input and writes one reply line
-//! for each (the protocol's paper, "Lines"). With `--trace` each reply is followed by
+//! for each (the protocol's paper, §4.1.6). With `--trace` each reply is followed by
 //! the refusal number (0 if accepted) and the SHA-256 blocks worked.
 
 #![forbid(unsafe_code)]
