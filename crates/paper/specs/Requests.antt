@@ -1,4 +1,4 @@
--- The table of kinds (§5.1.1 to §5.1.16), what each carries, and a frame read as a request.
+-- The table of kinds (docs/PROTOCOL.md, 5.1), what each carries, and a frame read as a request.
 use mathlib.Core.Bool.{Bool, true}
 use mathlib.Core.List.{List, [], _∷_, _++_}
 use Prim.Native.Nat.{ℕ, zero, suc, _+_, _-_, _*_, _/_, _^_}
@@ -87,7 +87,7 @@ pub record KindRow : Type 0 where
 -- the table, from kind 01 on: each row names its parts in their order
 unfoldable pub kinds : List KindRow
 kinds =
-    -- 01 path: x, x', n (1 byte), sides (8), n siblings
+    -- §5.1.1, 01 path: x, x', n (1 byte), sides (8), n siblings
     record {
       carries = aDigest ∷ aDigest ∷ aPath ∷ [];
       reads =
@@ -95,9 +95,9 @@ kinds =
           let x = p 0 in let x′ = p 1 in let way = p 2 in
           path x x′ (sidesIn way) (siblingsIn way);
     }
-    -- 02 witness: x, y, m
+    -- §5.1.2, 02 witness: x, y, m
     ∷ record { carries = digests 3; reads = λ p. let x = p 0 in let y = p 1 in let m = p 2 in witness x y m }
-    -- 03 join: x, y, x', y', m1, z, z', m2
+    -- §5.1.3, 03 join: x, y, x', y', m1, z, z', m2
     ∷ record {
       carries = digests 8;
       reads =
@@ -106,7 +106,7 @@ kinds =
           let m2 = p 7 in
           join x y x′ y′ m1 z z′ m2;
     }
-    -- 04 pair: x1, y, x1', y', m1, x2, z, x2', z', m2
+    -- §5.1.4, 04 pair: x1, y, x1', y', m1, x2, z, x2', z', m2
     ∷ record {
       carries = digests 10;
       reads =
@@ -115,7 +115,7 @@ kinds =
           let x2′ = p 7 in let z′ = p 8 in let m2 = p 9 in
           pair x1 y x1′ y′ m1 x2 z x2′ z′ m2;
     }
-    -- 05 raise: x1, x2, y, x1', x2', y', m1, z, z', m2
+    -- §5.1.5, 05 raise: x1, x2, y, x1', x2', y', m1, z, z', m2
     ∷ record {
       carries = digests 10;
       reads =
@@ -124,7 +124,7 @@ kinds =
           let m1 = p 6 in let z = p 7 in let z′ = p 8 in let m2 = p 9 in
           raise x1 x2 y x1′ x2′ y′ m1 z z′ m2;
     }
-    -- 06 swap: x1, x2, y, y', m
+    -- §5.1.6, 06 swap: x1, x2, y, y', m
     ∷ record {
       carries = digests 5;
       reads =
@@ -132,9 +132,9 @@ kinds =
           let x1 = p 0 in let x2 = p 1 in let y = p 2 in let y′ = p 3 in let m = p 4 in
           swap x1 x2 y y′ m;
     }
-    -- 07 first: A
+    -- §5.1.7, 07 first: A
     ∷ record { carries = aNumber ∷ []; reads = λ p. let A = numberOf (p 0) in first A }
-    -- 08 place: A, A', B', ω, y, y', m
+    -- §5.1.8, 08 place: A, A', B', ω, y, y', m
     ∷ record {
       carries = aNumber ∷ aNumber ∷ aNumber ∷ digests 4;
       reads =
@@ -143,9 +143,9 @@ kinds =
           let y′ = p 5 in let m = p 6 in
           place A A′ B′ ω y y′ m;
     }
-    -- 09 turn: x, y, m
+    -- §5.1.9, 09 turn: x, y, m
     ∷ record { carries = digests 3; reads = λ p. let x = p 0 in let y = p 1 in let m = p 2 in turn x y m }
-    -- 0a chain: x, y, m1, z, m2
+    -- §5.1.10, 0a chain: x, y, m1, z, m2
     ∷ record {
       carries = digests 5;
       reads =
@@ -153,9 +153,9 @@ kinds =
           let x = p 0 in let y = p 1 in let m1 = p 2 in let z = p 3 in let m2 = p 4 in
           chain x y m1 z m2;
     }
-    -- 0b adopt: y, y', m
+    -- §5.1.11, 0b adopt: y, y', m
     ∷ record { carries = digests 3; reads = λ p. let y = p 0 in let y′ = p 1 in let m = p 2 in adopt y y′ m }
-    -- 0c set: A, A', old record, v2, v3, v4, y, y', m
+    -- §5.1.12, 0c set: A, A', old record, v2, v3, v4, y, y', m
     ∷ record {
       carries = aNumber ∷ aNumber ∷ aRecord ∷ theValues ∷ digests 3;
       reads =
@@ -164,7 +164,7 @@ kinds =
           let y′ = p 5 in let m = p 6 in
           setTo A A′ (recordIn old) (valuesIn v) y y′ m;
     }
-    -- 0d clear: A, A', old record, y, y', m
+    -- §5.1.13, 0d clear: A, A', old record, y, y', m
     ∷ record {
       carries = aNumber ∷ aNumber ∷ aRecord ∷ digests 3;
       reads =
@@ -173,7 +173,7 @@ kinds =
           let m = p 5 in
           clear A A′ (recordIn old) y y′ m;
     }
-    -- 0e ask: q, A, A', record, y, m
+    -- §5.1.14, 0e ask: q, A, A', record, y, m
     ∷ record {
       carries = aNumber ∷ aNumber ∷ aNumber ∷ aRecord ∷ digests 2;
       reads =
@@ -182,9 +182,9 @@ kinds =
           let m = p 5 in
           ask q A A′ (recordIn r) y m;
     }
-    -- 0f ask of none: q
+    -- §5.1.15, 0f ask of none: q
     ∷ record { carries = aNumber ∷ []; reads = λ p. let q = numberOf (p 0) in askNone q }
-    -- 10 open: secret
+    -- §5.1.16, 10 open: secret
     ∷ record { carries = aDigest ∷ []; reads = λ p. let secret = p 0 in unlock secret }
     ∷ []
 
