@@ -10,7 +10,7 @@ import sys
 
 # Strings and digests.
 
-ZERO = bytes(32)  # "0" for a digest is 32 zero bytes
+ZERO = bytes(32)  # the digest 0
 EMPTY = (0, 0, 0, 0)  # the record of an item that has none: revision, kg, mm, rigging code
 
 
@@ -46,7 +46,7 @@ class Session:
     # Memoranda: digests that end in the secret.
 
     def U1(self, x, y, x_, y_):
-        return digest(4, x, y, x_, y_, self.secret)  # y is above x; x changed to x' makes y into y'
+        return digest(4, x, y, x_, y_, self.secret)  # y stands above x; with x' there it is y'
 
     def V1(self, x, y):
         return digest(5, x, y, self.secret)  # y is above x
@@ -55,7 +55,7 @@ class Session:
         return digest(6, x1, x2, y, x1_, x2_, y_, self.secret)  # as U1, for two separate places
 
     def EI(self, y, y_):
-        return digest(7, y, y_, self.secret)  # the two roots stand for equally good rings
+        return digest(7, y, y_, self.secret)  # of two roots
 
     # Lines.
 
@@ -66,7 +66,7 @@ class Session:
         """One request and its reply. `needs` are pairs of a memorandum carried and the one it has to be."""
         if not refused and any(carried != due for carried, due in needs):
             sys.exit(f"by_hand: line {len(self.rows) + 1} is not honest: {comment}")
-        request = bytes([kind]) + b"".join(fields)  # a frame is a kind byte and fields
+        request = bytes([kind]) + b"".join(fields)  # the kind, then the fields
         reply = bytes([0, refused]) if refused else bytes([kind + 0x80]) + b"".join(answer)  # refusal, or kind + 80
         self.line(comment, request.hex(), reply.hex())  # a line is the bytes in lower-case hexadecimal
         return answer[-1] if answer and not refused else None  # the memorandum, where the reply lists one
@@ -79,7 +79,7 @@ class Session:
         for level, (side, other) in enumerate(siblings):
             if side == "left":
                 y, y_ = parent(other, y), parent(other, y_)  # the sibling stands before
-                sides |= 1 << level  # bit j is 1 if sibling j stands on the left
+                sides |= 1 << level  # a bit for each sibling on the left
             else:
                 y, y_ = parent(y, other), parent(y_, other)  # the sibling stands behind
         fields = [x, x_, bytes([len(siblings)]), number(sides), *(other for _, other in siblings)]

@@ -64,7 +64,7 @@ pub record FirstDemand : Type 0 where
   -- of the line's reader and the frame's writer alike, in their order
   pub reading : ReadIsFirst
   pub writing : WriteIsFirst
-  -- §8.1.4: a refusal changes no register, and only the reply's own bytes are written
+  -- §8.1.4: a refusal changes no register, and nothing is written but the reply
   pub refusal-keeps : RefusalKeeps
   pub only-the-reply : OnlyTheReply
   pub reply-fits : ReplyFits

@@ -66,7 +66,7 @@ abbrev pub UnderTheCeiling : Type 0
 UnderTheCeiling = (s : Registers) (line space after : List ℕ) (o : Answered) → Promised s line space o after
     → o .blocks ≤ ceiling (requestOf (bytesOf line))
 
--- §5.2.12: a memorandum made for a set at an earlier counter gets 8 in any later set that carries it, or two strings formed then and
+-- §5.2.12: what was issued for a set gets 8 in any set that carries it after the counter has moved on, or two strings formed then and
 -- now have one digest
 abbrev pub OlderMemorandum : Type 0
 OlderMemorandum = (s₀ s : Registers) (line₀ line space₀ space after : List ℕ) (o : Answered)

@@ -60,8 +60,8 @@ pub record Told : Type 0 where
   pub effect : Effect
 
 module _ (D : List ℕ → Dig) where
-  -- a refusal is 00 and its number (§5.3.2), leaves the registers as they were (§6.1.2) and does nothing else (§7.2.8); a reply is
-  -- the kind plus 80 hexadecimal and what the answer lists (§5.3.1)
+  -- a refusal is 00 and its number (§5.3.2), leaves the registers as they were (§6.1.2) and does nothing else (§7.2.8); a reply has
+  -- the kind with 80 hexadecimal added, and what the answer lists (§5.3.1)
   abbrev pub toldBy : Registers → (kind : ℕ) → Request → Verdict → Told
   toldBy s kind q (refusedBy n fs) = record { refusal = n; says = 0x00 ∷ n ∷ []; after = s; formed = fs; effect = none′ }
   toldBy s kind q (allPassed fs) =

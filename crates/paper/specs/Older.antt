@@ -1,4 +1,4 @@
--- A memorandum made for a set at an earlier counter gets 8 (§5.2.12). `proofs/Older` shows it, of two set lines that need have
+-- What was issued for a set gets 8 once the counter has moved on (§5.2.12). `proofs/Older` shows it, of two set lines that need have
 -- nothing in common but the memorandum.
 use mathlib.Core.Path.{_≡_}
 use mathlib.Core.List.{List, _++_}

@@ -14,7 +14,7 @@ use Rattle.rings.proofs.Bridge.{node-in, parent-is, parent-32}
 
 -- ── siblings and their sides ──
 
--- "Bit j of sides, lowest bit first, is 1 if sibling j stands on the left"
+-- the side of a sibling by its bit (§5.2.2)
 abbrev sibling : (bit : ℕ) → Dig → Sibling
 sibling bit s = pick (eqb bit 1) (leftSibling s) (rightSibling s)
 

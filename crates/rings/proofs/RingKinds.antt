@@ -233,13 +233,13 @@ module _ (D : Str → Dig) where
       };
     })
 
-  -- "m is U2(x1,x2,y,x1',x2',y')"
+  -- the first order (§5.2.7)
   pub place : {F : List Str} {y y′ : Dig} (A q B : ℕ) (w : Dig) → Placed F A q B w
       → MeansU2 D F (D (leaf A q w)) (D (leaf q B nought)) y (D (leaf A B w)) nought y′ → MeansEI D F y y′ (removal q ∷ [])
   place A q B w k u =
       record { forth = place-forth A q B w k (two-places u); back = place-back A q B w k (two-places (u2-back u)) }
 
-  -- "or, tried second, U2(x2,x1,y,x2',x1',y')"
+  -- the second order
   pub place-flipped : {F : List Str} {y y′ : Dig} (A q B : ℕ) (w : Dig) → Placed F A q B w
       → MeansU2 D F (D (leaf q B nought)) (D (leaf A q w)) y nought (D (leaf A B w)) y′ → MeansEI D F y y′ (removal q ∷ [])
   place-flipped A q B w k u =

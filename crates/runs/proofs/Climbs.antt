@@ -23,7 +23,7 @@ siblings-length D [] = refl
 siblings-length D (onLeft S ∷ p) = omega (arith, siblings-length D p)
 siblings-length D (onRight S ∷ p) = omega (arith, siblings-length D p)
 
--- "Bits from n up must be 0"
+-- no bit of the sides from n up (§5.2.3)
 pub sides-fit : (D : List ℕ → Dig) (p : Way) → sidesOf p < 2 ^ length (siblingsOf D p)
 sides-fit D [] = omega arith
 sides-fit D (onLeft S ∷ p) = omega (arith, sides-fit D p, pow-suc 2 (length (siblingsOf D p)))

@@ -1,4 +1,4 @@
--- "Reply space of 195 bytes or more": how much more makes no difference to what lines come to.
+-- How much more reply space there is than is asked for (§7.4.4) makes no difference to what lines come to.
 use mathlib.Core.Path.{_≡_, refl, sym, ap, subst, _∙_}
 use mathlib.Core.Bool.{Bool}
 use mathlib.Core.List.{List, [], _∷_, _++_}

@@ -35,7 +35,7 @@ pub data BookReading : Type 0 where
   earliest : BookReading
   last : BookReading
 
--- §7.1.2: a memorandum stands for what the earliest line that issued it does
+-- §7.1.2: the replay of a run reads memoranda by the earliest line
 abbrev pub ofRuns : BookReading
 ofRuns = earliest
 

@@ -28,8 +28,8 @@ abbrev pub questionIn : List ℕ → ℕ
 questionIn f = numberOf (take 8 (drop 1 f))
 
 module _ (D : List ℕ → Dig) where
-  -- the root is that of a tree whose leaves form one ascending ring (§8.3.1) and hold exactly the replayed list (§8.3.2); the counter is
-  -- the number of record changes (§8.3.3); and what is listed fits lines
+  -- there is a tree with that root, its leaves are one ascending ring (§8.3.1) and hold exactly the replayed list (§8.3.2); the counter
+  -- says how many record changes there were (§8.3.3); and what is listed fits lines
   pub record TreeStands (w : World) : Type 0 where
     pub tree : Tree
     pub root : hashOf D tree ≡ w .registers .root

@@ -1,7 +1,6 @@
 //! Words for what stands in lines: numbers with their units, records, items, digests.
 //!
-//! The protocol's paper, §3.4.1: a record is revision, mass in kg, offset of the
-//! centre of gravity in mm, rigging code.
+//! The protocol's paper, §3.4.1: what the four numbers of a record are.
 
 use reference::strings::{Digest, One, Record, Two, ZERO};
 

@@ -1,8 +1,8 @@
 //! An honest keeper: it holds the tree and makes the lines for each legal change
 //! and each question, every line from the replies before it.
 //!
-//! The protocol's paper, sections 5 and 7: honest lines carry only memoranda issued
-//! earlier in the run. Trees may be deeper than the 64 levels of one path: longer ways up
+//! The protocol's paper, sections 5 and 7: honest lines, which carry no
+//! memorandum that the run has not issued. Trees may be deeper than the 64 levels of one path: longer ways up
 //! are several paths put together by `join`.
 
 use crate::tree::{leaf_digest, Level, Place, Spot, Tree};

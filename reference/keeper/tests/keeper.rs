@@ -1,5 +1,5 @@
 //! The honest keeper on lists of every size and trees of every depth: all its
-//! lines are accepted, and together do just the change or question wanted.
+//! lines are accepted, and do what was wished and nothing else.
 
 #![forbid(unsafe_code)]
 

@@ -205,7 +205,7 @@ fn block_counts_are_those_of_the_strings() {
 
 /// What must hold after every line: the root is that of the keeper's
 /// tree, whose leaves are the ring of the replayed list in some order; the counter
-/// is the number of accepted record changes; every finding is true of the list.
+/// says how many record changes were accepted; every finding is true of the list.
 fn follows_the_replay(seeds: std::ops::Range<u64>) {
     for seed in seeds {
         let mut replay = Replay::new();

@@ -15,11 +15,11 @@ pub const MOST_SIBLINGS: usize = 64;
 /// The kinds of the table, 01 to 10.
 pub const KINDS: std::ops::RangeInclusive<u8> = 0x01..=0x10;
 
-/// Refusal: line empty, odd, too long, or with another byte than 0-9, a-f.
+/// Refusal: no line of hexadecimal (§6.2.1).
 pub const BAD_LINE: u8 = 1;
 /// Refusal: kind not in the table.
 pub const UNKNOWN_KIND: u8 = 2;
-/// Refusal: wrong length, n above 64, or a side bit at n or above.
+/// Refusal: not of its kind's length, or no sound path (§6.2.3).
 pub const BAD_LENGTH: u8 = 3;
 /// Refusal: space shorter than what is to be written.
 pub const NO_SPACE: u8 = 15;
@@ -67,7 +67,7 @@ pub fn write_frame(frame: &[u8], space: usize) -> Result<Vec<u8>, u8> {
     Ok(line_of(frame))
 }
 
-/// Bytes as lower-case hexadecimal, two digits each, ended by 0A.
+/// Bytes as a line: their digits, and 0A (§4.1.2).
 pub fn line_of(bytes: &[u8]) -> Vec<u8> {
     let mut line = Vec::with_capacity(2 * bytes.len() + 1);
     for byte in bytes {

@@ -16,13 +16,13 @@ pub const ZERO_NUMBER: u8 = 4;
 pub const MALFORMED: u8 = 5;
 /// Refusal: A' not in the gap; q neither A nor in the gap.
 pub const NOT_IN_GAP: u8 = 6;
-/// Refusal: set or clear with c at 2^64 - 1.
+/// Refusal: the counter is at its top (§6.2.7).
 pub const COUNTER_AT_TOP: u8 = 7;
 /// Refusal: first memorandum doesn't match.
 pub const FIRST_MEMORANDUM: u8 = 8;
 /// Refusal: second memorandum doesn't match.
 pub const SECOND_MEMORANDUM: u8 = 9;
-/// Refusal: y, or for 0f zero, isn't the root.
+/// Refusal: stale, another digest than the root (§6.2.10).
 pub const STALE: u8 = 10;
 /// Refusal: clear of an empty record.
 pub const CLEAR_OF_EMPTY: u8 = 11;

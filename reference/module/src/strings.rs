@@ -40,7 +40,7 @@ impl Record {
     }
 }
 
-/// A U1's four digests: y is above x, and x changed to x' makes y into y'.
+/// A U1's four digests: y stands above x, and with x' there it is y' (§3.6.2).
 #[derive(Clone, Copy, Debug, PartialEq, Eq)]
 pub struct One {
     pub x: Digest,
@@ -49,7 +49,7 @@ pub struct One {
     pub y_new: Digest,
 }
 
-/// A U2's six digests: the same as U1 for two separate places.
+/// A U2's six digests: as a U1's, of two places (§3.6.4).
 #[derive(Clone, Copy, Debug, PartialEq, Eq)]
 pub struct Two {
     pub x1: Digest,
