@@ -4,18 +4,19 @@ use mathlib.Core.Path.{_≡_, refl, sym, ap, subst, _∙_}
 use mathlib.Core.Bool.{Bool, true, false}
 use mathlib.Core.List.{List, [], _∷_, _++_}
 use mathlib.Core.Logic.{_⊎_, inl, inr}
-use Prim.Native.Nat.{ℕ, _≤_, _<_}
+use Prim.Native.Nat.{ℕ, _+_, _≤_, _<_}
 use native.Mathlib.Omega.{arith}
 use native.Mathlib.Decide.{decLe}
 use borrow.Author.Tests.{eqb-true}
 use lib.Dec.{eqb}
-use lib.ListN.{length, drop}
+use lib.ListN.{length, getD, drop}
 use Rattle.seqs.specs.Choose.{pick}
 use Rattle.hex.specs.Hex.{bytesOf, lineOf}
 use Rattle.sha256.specs.Hash.{sha256}
 use Rattle.sha256.proofs.Digests.{sha256-length}
 use Rattle.paper.specs.declared.Registers.{Registers}
 use Rattle.paper.specs.Strings.{Dig}
+use Rattle.paper.specs.Requests.{kindOf}
 use Rattle.paper.specs.Answers.{findingIn}
 use Rattle.paper.specs.Module.{answerTo, replyLine, spaceAfter}
 use Rattle.paper.specs.Refusals.{replyRoom, top}
@@ -95,9 +96,15 @@ reply-true k c cs h f accepted asks =
     let true-answer = f .0 .true-answer zero-refusal in (
       told .says,
       h .1 ∙ ap (λ (r : List ℕ). r ++ drop (length r) (c .space)) line-is,
+      of-its-kind (told .says) (after sha256 k (turnsOfCalls cs) .items) true-answer asks,
       either-way (told .says) (after sha256 k (turnsOfCalls cs) .items) true-answer asks,
     )
   where
+    of-its-kind : (says : List ℕ) (l : Items) → TrueAnswer sha256 (bytesOf (c .line)) says l → IsQuestion (c .line)
+        → getD says 0 0 ≡ 0x80 + kindOf (bytesOf (c .line))
+    of-its-kind says l a (inl e) = ap (λ (b : List ℕ). getD b 0 0) (a .ask e .0) ∙ ap (λ (n : ℕ). 0x80 + n) (sym e)
+    of-its-kind says l a (inr e) = ap (λ (b : List ℕ). getD b 0 0) (a .ask-of-none e .0) ∙ ap (λ (n : ℕ). 0x80 + n) (sym e)
+
     either-way : (says : List ℕ) (l : Items) → TrueAnswer sha256 (bytesOf (c .line)) says l → IsQuestion (c .line)
         → TrueReply sha256 (questionIn (bytesOf (c .line))) l says
     either-way says l a (inl e) = findingGiven (findingIn (drop 1 says)) (a .ask e .1) (a .ask e .0)

@@ -6,8 +6,8 @@ use mathlib.Core.Path.{_≡_}
 use mathlib.Core.Bool.{true}
 use mathlib.Core.List.{List, [], _∷_, _++_}
 use mathlib.Core.Logic.{_⊎_}
-use Prim.Native.Nat.{ℕ, _<_}
-use lib.ListN.{length, drop}
+use Prim.Native.Nat.{ℕ, _+_, _<_}
+use lib.ListN.{length, getD, drop}
 use Rattle.hex.specs.Hex.{bytesOf, lineOf}
 use Rattle.sha256.specs.Hash.{sha256}
 use Rattle.paper.specs.declared.Registers.{Registers}
@@ -93,11 +93,12 @@ pub record SecondDemand : Type 0 where
 abbrev pub IsQuestion : (line : List ℕ) → Type 0
 IsQuestion line = (kindOf (bytesOf line) ≡ 0x0e) ⊎ (kindOf (bytesOf line) ≡ 0x0f)
 
--- §8.3.4, of a call behind others: where a question was accepted, the reply space begins with the line of an answer that is true of
--- its number and of the list as it was then
+-- §8.3.4, of a call behind others: where a question was accepted, the reply space begins with the line of an answer to that kind of
+-- question, and it is true of the number asked and of the list as it was then
 abbrev pub AnsweredTrue : (secret : Dig) (c : Call) (before : List Call) → Type 0
 AnsweredTrue k c cs =
     c .came .refused ≡ 0 → IsQuestion (c .line) → (says : List ℕ) × (c .left ≡ lineOf says ++ drop (length (lineOf says)) (c .space))
+    × (getD says 0 0 ≡ 0x80 + kindOf (bytesOf (c .line)))
     × TrueReply sha256 (questionIn (bytesOf (c .line))) (after sha256 k (turnsOfCalls cs) .items) says
 
 abbrev pub AllAnsweredTrue : (secret : Dig) → List Call → Type 0
