@@ -1,7 +1,7 @@
--- Turns in a row, and that all 64 with the constants K are the rounds of FIPS 180-4.
+-- Turns in a row, on whichever words, and that 64 on a schedule's are the rounds of FIPS 180-4.
 use mathlib.Core.Path.{_≡_, refl, sym, ap, _∙_}
 use mathlib.Core.List.{List}
-use Prim.Native.Nat.{ℕ, zero, suc, _+_}
+use Prim.Native.Nat.{ℕ, zero, suc, _+_, _≤_, _<_}
 use native.Mathlib.Nat.{zero-add, suc-add}
 use native.Mathlib.Omega.{arith}
 use lib.ListN.{getD}
@@ -10,17 +10,24 @@ use Rattle.sha256.specs.Constants.{K}
 use Rattle.sha256.specs.Hash.{afterTurn, rounds}
 use Rattle.sha256.specs.Work.{turnsFrom}
 
--- m turns from turn i on, and then n more
-pub in-row : (m n i : ℕ) (ks ws : List ℕ) (s : State)
-    → turnsFrom n (i + m) ks ws (turnsFrom m i ks ws s) ≡ turnsFrom (n + m) i ks ws s
+-- m turns from turn t on, and then n more
+pub in-row : (m n t : ℕ) (w : ℕ → ℕ) (s : State) → turnsFrom n (t + m) w (turnsFrom m t w s) ≡ turnsFrom (n + m) t w s
 unfolding turnsFrom
-in-row m zero i ks ws s = ap (λ (k : ℕ). turnsFrom k i ks ws s) (sym (zero-add m))
-in-row m (suc n) i ks ws s =
-    let e : (i + m) + n ≡ i + (n + m) = omega arith in
-    (λ j. afterTurn (in-row m n i ks ws s j) (getD ks (e j) 0) (getD ws (e j) 0))
-    ∙ ap (λ (k : ℕ). turnsFrom k i ks ws s) (sym (suc-add n m))
+in-row m zero t w s = ap (λ (k : ℕ). turnsFrom k t w s) (sym (zero-add m))
+in-row m (suc n) t w s =
+    let e : (t + m) + n ≡ t + (n + m) = omega arith in
+    (λ j. afterTurn (in-row m n t w s j) (getD K (e j) 0) (w (e j))) ∙ ap (λ (k : ℕ). turnsFrom k t w s) (sym (suc-add n m))
 
-pub all-rounds : (n : ℕ) (ws : List ℕ) (s : State) → turnsFrom n 0 K ws s ≡ rounds n ws s
+-- words that agree at these turns
+pub agree : (n t : ℕ) (w v : ℕ → ℕ) (s : State) → ((k : ℕ) → t ≤ k → k < t + n → w k ≡ v k) → turnsFrom n t w s ≡ turnsFrom n t v s
+unfolding turnsFrom
+agree zero t w v s e = refl
+agree (suc n) t w v s e =
+    let before = agree n t w v s (λ k h l. e k h (omega arith)) in
+    let last = e (t + n) (omega arith) (omega arith) in
+    λ j. afterTurn (before j) (getD K (t + n) 0) (last j)
+
+pub all-rounds : (n : ℕ) (ws : List ℕ) (s : State) → turnsFrom n 0 (λ k. getD ws k 0) s ≡ rounds n ws s
 unfolding turnsFrom rounds
 all-rounds zero ws s = refl
 all-rounds (suc n) ws s = λ j. afterTurn (all-rounds n ws s j) (getD K (zero-add n j) 0) (getD ws (zero-add n j) 0)

@@ -9,8 +9,7 @@ ghost use lib.Seq.{sets};
 ghost use Rattle.seqs.specs.Bytes.{be32};
 ghost use Rattle.sha256.specs.Constants.{H0};
 ghost use Rattle.sha256.specs.Padding.{pad};
-ghost use Rattle.sha256.specs.Hash.{added, wordsAsBytes, sha256};
-ghost use Rattle.sha256.specs.Work.{blockWith};
+ghost use Rattle.sha256.specs.Hash.{schedule, rounds, added, wordsAsBytes, sha256};
 ghost use Rattle.sha256.specs.Padding as Counted;
 use std::num::wrapping_add_u32;
 
@@ -63,13 +62,11 @@ fn sum(s: State, v: State) -> State
 }
 
 // The hash value after block i of the padded message.
-fn block(s: State, ks: &[u32; 64], message: &[u8], i: usize) -> State
+fn block(s: State, message: &[u8], i: usize) -> State
     requires { ⌜ i + 1 ≤ Counted.blocks (length (now message)) ⌝ }
-    ensures { λ r. ⌜ r ≡ blockWith (now (ks .entry)) (pad (now (message .entry))) i s ⌝ }
+    ensures { λ r. ⌜ r ≡ added s (rounds 64 (schedule (pad (now (message .entry))) i 64) s) ⌝ }
 {
-    let mut ws = [0u32; 64];
-    schedule::fill(message, i, &mut ws);
-    sum(s, rounds::turns(s, ks, &ws))
+    sum(s, rounds::turns(s, message, i))
 }
 
 // Writes the four bytes of x at k.
@@ -112,11 +109,10 @@ pub fn digest(message: &[u8]) -> [u8; 32]
     ensures { λ r. ⌜ r ≡ sha256 (now (message .entry)) ⌝ }
 {
     let n = blocks(message.len());
-    let ks = rounds::constants();
     let mut s = initial();
     let mut i: usize = 0;
     while i < n {
-        s = block(s, &ks, message, i);
+        s = block(s, message, i);
         i += 1;
     }
     bytes_of(s)

@@ -1,89 +1,92 @@
 // The 64 turns of FIPS 180-4, section 6.2.2, steps 2 and 3.
 ghost use mathlib.Core.Path.{_≡_};
-ghost use Prim.Native.Nat.{_+_, _≤_};
+ghost use Prim.Native.Nat.{_+_, _≤_, _<_};
+ghost use lib.ListN.{length, getD};
 ghost use Rattle.sha256.specs.Constants.{K};
-ghost use Rattle.sha256.specs.Hash.{afterTurn};
-ghost use Rattle.sha256.specs.Work.{turnsFrom};
+ghost use Rattle.sha256.specs.Padding.{pad, blocks};
+ghost use Rattle.sha256.specs.Hash.{afterTurn, schedule, rounds};
+ghost use Rattle.sha256.specs.Work.{turnsFrom, rolled};
 use crate::State;
+use crate::schedule::load;
+use crate::schedule::roll_four;
 use crate::words::big0;
 use crate::words::big1;
 use crate::words::choose;
 use crate::words::majority;
 use std::num::wrapping_add_u32;
 
-const CONSTANTS: [u32; 64] = [
-    0x428a_2f98,
-    0x7137_4491,
-    0xb5c0_fbcf,
-    0xe9b5_dba5,
-    0x3956_c25b,
-    0x59f1_11f1,
-    0x923f_82a4,
-    0xab1c_5ed5,
-    0xd807_aa98,
-    0x1283_5b01,
-    0x2431_85be,
-    0x550c_7dc3,
-    0x72be_5d74,
-    0x80de_b1fe,
-    0x9bdc_06a7,
-    0xc19b_f174,
-    0xe49b_69c1,
-    0xefbe_4786,
-    0x0fc1_9dc6,
-    0x240c_a1cc,
-    0x2de9_2c6f,
-    0x4a74_84aa,
-    0x5cb0_a9dc,
-    0x76f9_88da,
-    0x983e_5152,
-    0xa831_c66d,
-    0xb003_27c8,
-    0xbf59_7fc7,
-    0xc6e0_0bf3,
-    0xd5a7_9147,
-    0x06ca_6351,
-    0x1429_2967,
-    0x27b7_0a85,
-    0x2e1b_2138,
-    0x4d2c_6dfc,
-    0x5338_0d13,
-    0x650a_7354,
-    0x766a_0abb,
-    0x81c2_c92e,
-    0x9272_2c85,
-    0xa2bf_e8a1,
-    0xa81a_664b,
-    0xc24b_8b70,
-    0xc76c_51a3,
-    0xd192_e819,
-    0xd699_0624,
-    0xf40e_3585,
-    0x106a_a070,
-    0x19a4_c116,
-    0x1e37_6c08,
-    0x2748_774c,
-    0x34b0_bcb5,
-    0x391c_0cb3,
-    0x4ed8_aa4a,
-    0x5b9c_ca4f,
-    0x682e_6ff3,
-    0x748f_82ee,
-    0x78a5_636f,
-    0x84c8_7814,
-    0x8cc7_0208,
-    0x90be_fffa,
-    0xa450_6ceb,
-    0xbef9_a3f7,
-    0xc671_78f2,
-];
-
-// The constants of the turns. A caller makes the array once and lends it: `CONSTANTS[i]` in a
-// loop's body would store the whole table anew in each turn.
-pub(crate) fn constants() -> [u32; 64]
-    ensures { λ r. ⌜ r ≡ K ⌝ }
+// The constant of turn t. A `match` and no array: whoever reads an array has it on the stack first, 256 bytes of it, and
+// this one stays where the code is.
+fn constant(t: usize) -> u32
+    requires { ⌜ t < 64 ⌝ }
+    ensures { λ r. ⌜ r ≡ getD K t 0 ⌝ }
 {
-    CONSTANTS
+    match t {
+        0 => 0x428a_2f98,
+        1 => 0x7137_4491,
+        2 => 0xb5c0_fbcf,
+        3 => 0xe9b5_dba5,
+        4 => 0x3956_c25b,
+        5 => 0x59f1_11f1,
+        6 => 0x923f_82a4,
+        7 => 0xab1c_5ed5,
+        8 => 0xd807_aa98,
+        9 => 0x1283_5b01,
+        10 => 0x2431_85be,
+        11 => 0x550c_7dc3,
+        12 => 0x72be_5d74,
+        13 => 0x80de_b1fe,
+        14 => 0x9bdc_06a7,
+        15 => 0xc19b_f174,
+        16 => 0xe49b_69c1,
+        17 => 0xefbe_4786,
+        18 => 0x0fc1_9dc6,
+        19 => 0x240c_a1cc,
+        20 => 0x2de9_2c6f,
+        21 => 0x4a74_84aa,
+        22 => 0x5cb0_a9dc,
+        23 => 0x76f9_88da,
+        24 => 0x983e_5152,
+        25 => 0xa831_c66d,
+        26 => 0xb003_27c8,
+        27 => 0xbf59_7fc7,
+        28 => 0xc6e0_0bf3,
+        29 => 0xd5a7_9147,
+        30 => 0x06ca_6351,
+        31 => 0x1429_2967,
+        32 => 0x27b7_0a85,
+        33 => 0x2e1b_2138,
+        34 => 0x4d2c_6dfc,
+        35 => 0x5338_0d13,
+        36 => 0x650a_7354,
+        37 => 0x766a_0abb,
+        38 => 0x81c2_c92e,
+        39 => 0x9272_2c85,
+        40 => 0xa2bf_e8a1,
+        41 => 0xa81a_664b,
+        42 => 0xc24b_8b70,
+        43 => 0xc76c_51a3,
+        44 => 0xd192_e819,
+        45 => 0xd699_0624,
+        46 => 0xf40e_3585,
+        47 => 0x106a_a070,
+        48 => 0x19a4_c116,
+        49 => 0x1e37_6c08,
+        50 => 0x2748_774c,
+        51 => 0x34b0_bcb5,
+        52 => 0x391c_0cb3,
+        53 => 0x4ed8_aa4a,
+        54 => 0x5b9c_ca4f,
+        55 => 0x682e_6ff3,
+        56 => 0x748f_82ee,
+        57 => 0x78a5_636f,
+        58 => 0x84c8_7814,
+        59 => 0x8cc7_0208,
+        60 => 0x90be_fffa,
+        61 => 0xa450_6ceb,
+        62 => 0xbef9_a3f7,
+        63.. => 0xc671_78f2,
+    }
 }
 
 // One turn, with its constant and its word.
@@ -110,39 +113,43 @@ fn turn(s: State, k: u32, w: u32) -> State
     }
 }
 
-// Turn i.
-fn one(s: State, ks: &[u32; 64], ws: &[u32; 64], i: usize) -> State
-    requires { ⌜ i + 1 ≤ 64 ⌝ }
-    ensures { λ r. ⌜ r ≡ turnsFrom 1 i (now (ks .entry)) (now (ws .entry)) s ⌝ }
+// Turn t, on words that roll over.
+fn one(s: State, ws: &[u32; 16], t: usize) -> State
+    requires { ⌜ t + 1 ≤ 64 ⌝ }
+    ensures { λ r. ⌜ r ≡ turnsFrom 1 t (rolled (now (ws .entry))) s ⌝ }
 {
-    turn(s, ks[i], ws[i])
+    turn(s, constant(t), ws[t % 16])
 }
 
-// Two turns, from turn i on.
-fn two(s: State, ks: &[u32; 64], ws: &[u32; 64], i: usize) -> State
-    requires { ⌜ i + 2 ≤ 64 ⌝ }
-    ensures { λ r. ⌜ r ≡ turnsFrom 2 i (now (ks .entry)) (now (ws .entry)) s ⌝ }
+// Two turns, from turn t on.
+fn two(s: State, ws: &[u32; 16], t: usize) -> State
+    requires { ⌜ t + 2 ≤ 64 ⌝ }
+    ensures { λ r. ⌜ r ≡ turnsFrom 2 t (rolled (now (ws .entry))) s ⌝ }
 {
-    one(one(s, ks, ws, i), ks, ws, i + 1)
+    one(one(s, ws, t), ws, t + 1)
 }
 
 // Four: the compiler then keeps the working variables in registers instead of moving them along.
-fn four(s: State, ks: &[u32; 64], ws: &[u32; 64], i: usize) -> State
-    requires { ⌜ i + 4 ≤ 64 ⌝ }
-    ensures { λ r. ⌜ r ≡ turnsFrom 4 i (now (ks .entry)) (now (ws .entry)) s ⌝ }
+fn four(s: State, ws: &[u32; 16], t: usize) -> State
+    requires { ⌜ t + 4 ≤ 64 ⌝ }
+    ensures { λ r. ⌜ r ≡ turnsFrom 4 t (rolled (now (ws .entry))) s ⌝ }
 {
-    two(two(s, ks, ws, i), ks, ws, i + 2)
+    two(two(s, ws, t), ws, t + 2)
 }
 
-// All 64, over the constants and a schedule.
-pub(crate) fn turns(s: State, ks: &[u32; 64], ws: &[u32; 64]) -> State
-    ensures { λ r. ⌜ r ≡ turnsFrom 64 0 (now (ks .entry)) (now (ws .entry)) s ⌝ }
+// All 64, over the schedule of block i, of which sixteen words are there at a time.
+pub(crate) fn turns(s: State, message: &[u8], i: usize) -> State
+    requires { ⌜ i + 1 ≤ blocks (length (now message)) ⌝ }
+    ensures { λ r. ⌜ r ≡ rounds 64 (schedule (pad (now (message .entry))) i 64) s ⌝ }
 {
+    let mut ws = [0u32; 16];
+    load(message, i, &mut ws);
     let mut v = s;
-    let mut i: usize = 0;
-    while i < 64 {
-        v = four(v, ks, ws, i);
-        i += 4;
+    let mut t: usize = 0;
+    while t < 64 {
+        roll_four(&mut ws, t);
+        v = four(v, &ws, t);
+        t += 4;
     }
     v
 }

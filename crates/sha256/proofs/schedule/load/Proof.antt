@@ -1,25 +1,23 @@
--- The first t words are the schedule's, and each turn adds one.
-use mathlib.Core.Path.{_≡_, refl, sym, ap, _∙_}
-use Prim.Native.Nat.{ℕ, _-_, _≤_}
+-- The words before word t are there, and each turn puts one more.
+use mathlib.Core.Path.{_≡_}
+use Prim.Native.Nat.{_-_, _≤_}
 use native.Mathlib.Omega.{arith}
-use lib.ListN.{length, take, length-set}
 use denote.Ref.{now}
 use Rattle.sha256.specs.Padding.{pad}
-use Rattle.sha256.specs.Hash.{schedule}
-use Rattle.sha256.proofs.Scheduling.{loaded}
+use Rattle.sha256.specs.Work.{Rolling}
+use Rattle.sha256.proofs.Scheduling.{renumbered, loaded}
 use borrow.Author.Needs.{needs}
 use Rattle.sha256.proofs.schedule.load.Statement.{statement}
 use Rattle.sha256.proofs.schedule.load.Tie as tie
 
 abbrev Inv-loop : tie.InvT-loop
-Inv-loop message i ws₀ t₀ ws t = (t ≤ 16) × (length ws ≡ 64) × (take t ws ≡ schedule (pad message) i t)
+Inv-loop message i ws₀ t₀ ws t = (t ≤ 16) × Rolling (pad message) i t ws
 
 abbrev μ-loop : tie.MeasureT-loop
 μ-loop message i ws₀ t₀ ws t = 16 - t
 
 loop-holds : tie.Need-loop-holds Inv-loop μ-loop
-unfolding schedule
-loop-holds c = (search needs, c .before .pre .1, refl)
+loop-holds c = (search needs, record { size = c .before .pre .1; holds = λ k h l. omega arith })
 
 loop-again : tie.Need-loop-again Inv-loop μ-loop
 loop-again c =
@@ -28,17 +26,14 @@ loop-again c =
     let k = head .loop in
     let w = c .word-at in (
       search needs,
-      simp length-set (omega arith),
-      loaded (pad (now (a .message))) (a .i) (k .ws) (k .t) (omega arith) (k .inv .2) (w .result) (omega arith) (w .ensures),
+      loaded (pad (now (a .message))) (a .i) (k .ws) (k .t) (k .inv .1) (w .result) (omega arith) (w .ensures),
     )
 
 returns : tie.Need-returns Inv-loop μ-loop
 returns c =
-    let head = c .before in
-    let k = head .loop in
-    let a = head .before .before .args in
+    let k = c .before .loop in
     let done : k .t ≡ 16 = omega arith in
-    (k .inv .1, ap (λ (n : ℕ). take n (k .ws)) (sym done) ∙ k .inv .2 ∙ ap (schedule (pad (now (a .message))) (a .i)) done)
+    renumbered done (k .inv .1)
 
 pub load-spec : {M : Type 1} → statement M
 load-spec =
