@@ -19,7 +19,7 @@ ghost use mathlib.Core.Path.{_≡_};
 ghost use mathlib.Core.List.{_∷_, _++_};
 ghost use Prim.Native.Nat.{_≤_};
 ghost use Rattle.sha256.specs.Hash.{sha256};
-ghost use lib.ListN.{take};
+ghost use lib.ListN.{length, take};
 ghost use Rattle.paper.specs.Strings as S;
 ghost use Rattle.paper.specs.Requests as Q;
 ghost use Rattle.digests.specs.Worked.{worked};
@@ -39,11 +39,12 @@ fn level(u: [u8; 32], s: [u8; 32], bit: u64) -> Digest
     }
 }
 
-// The first n siblings folded level by level, the lowest first.
-fn fold(x: [u8; 32], siblings: [[u8; 32]; MOST_SIBLINGS], n: usize, sides: u64) -> Digest
-    requires { ⌜ n ≤ 64 ⌝ }
-    ensures { λ d. ⌜ (d ≡ worked (S.foldUp sha256 x sides (take n siblings)) (S.foldForms sha256 x sides (take n siblings)))
-        × (d .blocks ≤ 128) ⌝ }
+// The first n siblings folded level by level, the lowest first. They are lent: by value, each fold would have 2,048 bytes of them
+// on the stack once more.
+fn fold(x: [u8; 32], siblings: &[[u8; 32]], n: usize, sides: u64) -> Digest
+    requires { ⌜ (n ≤ length (now siblings)) × (n ≤ 64) ⌝ }
+    ensures { λ d. ⌜ (d ≡ worked (S.foldUp sha256 x sides (take n (now (siblings .entry))))
+        (S.foldForms sha256 x sides (take n (now (siblings .entry))))) × (d .blocks ≤ 128) ⌝ }
 {
     let mut u = x;
     let mut b: u64 = 0;
@@ -89,8 +90,8 @@ fn path_of(
     if j.stopped {
         return replies::refuse(r, j.number, j.blocks);
     }
-    let up = fold(x, siblings, n, sides);
-    let upn = fold(xn, siblings, n, sides);
+    let up = fold(x, &siblings, n, sides);
+    let upn = fold(xn, &siblings, n, sides);
     let y = up.bytes;
     let yn = upn.bytes;
     let secret = r.secret;

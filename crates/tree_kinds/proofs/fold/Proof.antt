@@ -5,6 +5,7 @@ use Prim.Native.Nat.{ℕ, suc, _+_, _-_, _*_, _%_, _≤_}
 use native.Mathlib.Omega.{arith}
 use lib.ListN.{length, drop, take, getD, length-take}
 use lib.Seq.{getD-take}
+use denote.Ref.{now}
 use Rattle.sha256.specs.Hash.{sha256}
 use Rattle.paper.specs.Strings.{Dig, cost, up, upForms, foldUp, foldForms}
 use Rattle.digests.specs.Worked.{worked}
@@ -15,13 +16,13 @@ use Rattle.tree_kinds.proofs.fold.Statement.{statement}
 use Rattle.tree_kinds.proofs.fold.Tie as tie
 
 abbrev Inv-loop : tie.InvT-loop
-Inv-loop n sides siblings u₀ b₀ bits₀ i₀ u b bits i =
+Inv-loop siblings n sides u₀ b₀ bits₀ i₀ u b bits i =
     (i ≤ n) × (b ≤ 2 * i)
     × (foldUp sha256 u₀ sides (take n siblings) ≡ foldUp sha256 u bits (drop i (take n siblings)))
     × (cost (foldForms sha256 u₀ sides (take n siblings)) ≡ b + cost (foldForms sha256 u bits (drop i (take n siblings))))
 
 abbrev μ-loop : tie.MeasureT-loop
-μ-loop n sides siblings u₀ b₀ bits₀ i₀ u b bits i = n - i
+μ-loop siblings n sides u₀ b₀ bits₀ i₀ u b bits i = n - i
 
 loop-holds : tie.Need-loop-holds Inv-loop μ-loop
 loop-holds c = (search needs, search needs, refl, omega arith)
@@ -35,7 +36,7 @@ module _ (c : tie.After-level Inv-loop μ-loop) where
   start = at .before
 
   abbrev sibling : Dig
-  sibling = getD (start .args .t2) (at .loop .i) []
+  sibling = getD (now (start .args .siblings)) (at .loop .i) []
 
   abbrev bit : ℕ
   bit = at .loop .bits % 2
@@ -55,10 +56,9 @@ loop-again c =
     let d = done .level .result in
     let e = rise done in
     let h : suc (k .i) ≤ a .n = omega arith in
-    let t : length (a .t2) ≡ 64 = start done .good .1 .0 .1 .0 .1 in
-    let l = take (a .n) (a .t2) in
+    let l = take (a .n) (now (a .siblings)) in
     let n : length l ≡ a .n = simp length-take (omega arith) in
-    let g : getD l (k .i) [] ≡ s = getD-take (a .n) (a .t2) (k .i) [] h in (
+    let g : getD l (k .i) [] ≡ s = getD-take (a .n) (now (a .siblings)) (k .i) [] h in (
       omega arith,
       omega (arith, cheap done),
       k .inv .2 ∙ up-next (k .u) (k .bits) l (k .i) s g (omega arith) d e,
@@ -69,7 +69,7 @@ returns : tie.Need-returns Inv-loop μ-loop
 returns c =
     let a = c .before .before .args in
     let k = c .before .loop in
-    let l : List (List ℕ) = take (a .n) (a .t2) in
+    let l : List (List ℕ) = take (a .n) (now (a .siblings)) in
     let n : length l ≤ a .n = simp length-take (omega arith) in
     let e1 : foldUp sha256 (a .x) (a .sides) l ≡ k .u = k .inv .2 ∙ up-end (k .u) (k .bits) l (k .i) (omega arith) in
     let e2 : cost (foldForms sha256 (a .x) (a .sides) l) ≡ k .b =

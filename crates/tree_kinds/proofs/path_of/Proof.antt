@@ -21,7 +21,7 @@ module _ (c : tie.After-begin-open) where
   start = c .before
 
   abbrev q : Q.Request
-  q = let a = start .args in Q.path (a .x) (a .xn) (a .sides) (take (a .n) (a .siblings))
+  q = let a = start .args in Q.path (a .x) (a .xn) (a .sides) (take (a .n) (a .t6))
 
 returns : tie.Need-returns
 returns c =
@@ -29,7 +29,7 @@ returns c =
     let a = start opened .args in
     c .refuse .ensures
     ∙ refused-as (a .r) 1 (q opened) (last (opened .begin-open .ensures)) (c .before .if1 .taken)
-    (few-levels (a .siblings) (a .n) (start opened .pre))
+    (few-levels (a .t6) (a .n) (start opened .pre))
 
 returns-2 : tie.Need-returns-2
 returns-2 c =
@@ -40,10 +40,10 @@ returns-2 c =
     let made = listed .before .before in
     let said = made .before in
     let upn = said .before .before .before .before in
-    let up = upn .before in
-    let opened = up .before .before in
+    let up = upn .before .before in
+    let opened = up .before .before .before in
     let a = start opened .args in
-    let l = take (a .n) (a .siblings) in
+    let l = take (a .n) (a .t6) in
     let y = up .fold .ensures .0 in
     let yn = upn .fold2 .ensures .0 in
     let says = spoken-as (said .u1 .ensures) (ap₂ (λ (d d′ : Dig). u1 (a .x) d (a .xn) d′) (bytes-of y) (bytes-of yn)) in
@@ -53,9 +53,11 @@ returns-2 c =
     (finish-joined (formed (foldForms sha256 (a .x) (a .sides) l) (worked1 .work .ensures) (blocks-of y))
     (finish-joined (formed (foldForms sha256 (a .xn) (a .sides) l) (worked2 .work2 .ensures) (blocks-of yn))
     (finish-joined (formed (_ ∷ []) (worked3 .work3 .ensures) (blocks-of m)) (lists-as (c .finish .ensures) lists))))
-    (few-levels (a .siblings) (a .n) (start opened .pre)) (omega (arith, ap length lists, listed .path-lists .ok))
+    (few-levels (a .t6) (a .n) (start opened .pre)) (omega (arith, ap length lists, listed .path-lists .ok))
 
 pub path-of-spec : {M : Type 1} → statement M
 path-of-spec =
     tie.close
-    (tie.spec free free returns (λ c κs. search needs) (λ c κs. search needs) free free free free free free (λ c. search needs) free returns-2)
+    (tie.spec free free returns
+    (λ c. search needs) (λ c κs. search needs) (λ c. search needs) (λ c κs. search needs)
+    free free free free free free (λ c. search needs) free returns-2)
