@@ -1,5 +1,5 @@
 # What there is to call. `make` alone says it, from the words behind each target, and does nothing else.
-.PHONY: help demo test build bench
+.PHONY: help demo test build bench stack
 
 help: ## says this
 	@sed -n 's/^\([a-z]*\):.*## /make \1	/p' Makefile
@@ -16,3 +16,6 @@ build: ## proves and builds the program of bin/knotcinder, and builds that of bi
 
 bench: ## times the proved digest beside a plain Rust one
 	@scripts/bench-digest
+
+stack: ## says how much stack the module and its digest take, and by which calls, out of the compiled code
+	@scripts/stack
