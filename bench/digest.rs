@@ -1,8 +1,9 @@
 //! Times the proved digest beside a plain Rust one on the same messages, in the same run.
 //!
 //! `scripts/bench-digest` builds and runs it. Both sides are built for release; messages are made once, and
-//! two of their bytes change before each digest so that none can be hoisted out of the loop. The best of five
-//! passes counts. The proved side's buffers are its own and are cleared on every call.
+//! two of their bytes change before each digest so that none can be hoisted out of the loop. The two sides take
+//! turns, pass by pass, and the best pass of each counts. What it prints says how many there were, and what each
+//! side clears.
 
 use std::sync::atomic::{AtomicU8, Ordering};
 use std::time::Instant;
@@ -89,23 +90,26 @@ fn proved(message: &[u8]) -> [u8; 32] {
 /// What the digests came to, kept so that no compiler can leave them out.
 static SEEN: AtomicU8 = AtomicU8::new(0);
 
-/// Nanoseconds a digest, the best of five passes.
-fn time(digest: fn(&[u8]) -> [u8; 32], length: usize) -> f64 {
-    let count = 65_000_000 / length.max(65);
-    let mut message: Vec<u8> = (0..length).map(|i| (i % 251) as u8).collect();
-    let mut best = f64::MAX;
+const PASSES: usize = 5;
+
+/// The digests of a pass: about as many bytes for every length.
+fn count(length: usize) -> usize {
+    65_000_000 / length.max(65)
+}
+
+/// Nanoseconds a digest, in one pass.
+fn pass(digest: fn(&[u8]) -> [u8; 32], message: &mut [u8]) -> f64 {
+    let count = count(message.len());
     let mut seen = 0u8;
-    for _ in 0..5 {
-        let start = Instant::now();
-        for i in 0..count {
-            message[0] = i as u8;
-            message[1] = (i >> 8) as u8;
-            seen ^= digest(&message)[0];
-        }
-        best = best.min(start.elapsed().as_secs_f64());
+    let start = Instant::now();
+    for i in 0..count {
+        message[0] = i as u8;
+        message[1] = (i >> 8) as u8;
+        seen ^= digest(message)[0];
     }
+    let taken = start.elapsed().as_secs_f64();
     SEEN.fetch_xor(seen, Ordering::Relaxed);
-    best / count as f64 * 1e9
+    taken / count as f64 * 1e9
 }
 
 fn main() {
@@ -114,8 +118,17 @@ fn main() {
         assert_eq!(plain(&message), proved(&message), "the digests of {length} bytes differ");
     }
     for length in [33, 65, 161, 225, 4096] {
-        let ours = time(proved, length);
-        let theirs = time(plain, length);
-        println!("{length} bytes: proved {ours:.0} ns, plain Rust {theirs:.0} ns, ratio {:.2}", ours / theirs);
+        let mut message: Vec<u8> = (0..length).map(|i| (i % 251) as u8).collect();
+        let (mut ours, mut theirs) = (f64::MAX, f64::MAX);
+        for _ in 0..PASSES {
+            ours = ours.min(pass(proved, &mut message));
+            theirs = theirs.min(pass(plain, &mut message));
+        }
+        println!(
+            "{length} bytes: proved {ours:.0} ns, plain Rust {theirs:.0} ns, ratio {:.2} (best of {PASSES} passes of {} digests)",
+            ours / theirs,
+            count(length)
+        );
     }
+    println!("cleared for every block: proved, its 16 words of schedule; plain Rust, its 64. Nothing is kept from call to call.");
 }
