@@ -1,6 +1,9 @@
--- Choices by a test, for definitions that go by `ltb`, `leb` and `eqb` as papers go by "if".
+-- Choices by a test, for definitions that go by `ltb`, `leb` and `eqb` as papers go by "if"; and what is left where a `match` has
+-- an arm for each of some numbers in a row.
 use mathlib.Core.Bool.{Bool, true, false}
 use mathlib.Core.Path.{_≡_, refl}
+use Prim.Native.Nat.{ℕ, zero, suc, _+_, _≤_}
+use native.Mathlib.Omega.{arith}
 
 -- the first of two where the test is true, else the second
 abbrev pub pick {ℓ} : {A : Type ℓ} → Bool → A → A → A
@@ -48,3 +51,12 @@ infixr 30 _and_
 -- one, and then the others: a proof of nested pairs without their brackets
 pub _and_ : {A B : Type 0} → A → B → A × B
 a and b = (a, b)
+
+-- k is none of the n numbers from `first` on, as the last arm of such a `match` has it
+abbrev pub NoneOf : (first n k : ℕ) → Type 0
+NoneOf first zero k = Unit {0}
+NoneOf first (suc n) k = NoneOf first n k × (k ≡ first + n → ⊥)
+
+pub past-all : (first n k : ℕ) → NoneOf first n k → first ≤ k → first + n ≤ k
+past-all first zero k b h = omega arith
+past-all first (suc n) k b h = let past = past-all first n k (b .0) h in omega (arith, b .1)
