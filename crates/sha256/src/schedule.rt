@@ -1,5 +1,5 @@
 // The message schedule of FIPS 180-4, section 6.2.2, step 1, in sixteen words that roll over: word t stands at place t mod 16,
-// where word t - 16 stood, which no turn and no word behind it asks for.
+// where word t - 16 stood, which it is the last to ask for.
 ghost use mathlib.Core.Path.{_≡_};
 ghost use mathlib.Core.List.{List};
 ghost use Prim.Native.Nat.{ℕ, _+_, _%_, _≤_, _<_};
