@@ -16,7 +16,7 @@ use places::FIELDS;
 use places::digest;
 use replies::Outcome;
 ghost use mathlib.Core.Path.{_≡_};
-ghost use mathlib.Core.List.{_∷_, _++_};
+ghost use mathlib.Core.List.{_++_};
 ghost use Prim.Native.Nat.{_≤_};
 ghost use Rattle.sha256.specs.Hash.{sha256};
 ghost use lib.ListN.{length, take};
