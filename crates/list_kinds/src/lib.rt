@@ -162,12 +162,13 @@ const SET_VALUES: u16 = OLD + RECORD;
 
 const SET_DIGESTS: u16 = SET_VALUES + VALUES;
 
-// 0c set: A, A', old record, v2, v3, v4, y, y', m; the record becomes [c+1, v2, v3, v4].
+// 0c set: A, A', old record, v2, v3, v4, y, y', m; the mass v2 is not silly, and the record becomes [c+1, v2, v3, v4].
 pub fn set_record(r: Registers, f: &[u8]) -> Outcome
     ensures { λ o. ⌜ o ≡ outcomeFor r 12 (requestAt 12 (now (f .entry))) ⌝ }
 {
-    let j = begin_change(r, f);
+    let i = begin_change(r, f);
     let v = values_at(f, SET_VALUES);
+    let j = refuse_if(i, 16, records::is_silly(v.mass));
     changed(r, f, j, 0x8c, SET_DIGESTS, Change::Set(v))
 }
 

@@ -1,5 +1,5 @@
 -- The paper's numbers to check by hand, from the definitions: each row computes.
-use mathlib.Core.Path.{_≡_, refl, _∙_}
+use mathlib.Core.Path.{_≡_, refl, ap, ap₂, _∙_}
 use mathlib.Core.Bool.{Bool, true, false, true≢false}
 use mathlib.Core.List.{List, [], _∷_, _++_}
 use Prim.Native.Nat.{ℕ, zero, suc, _+_, _*_, _/_, _%_, _≤_}
@@ -8,27 +8,32 @@ use native.Mathlib.Decide.{decLe}
 use borrow.Author.Tests.{eq-eqb, ne-eqb, lt-ltb, le-ltb}
 use lib.Dec.{eqb}
 use lib.ListN.{length, replicate}
-use Rattle.seqs.specs.Choose.{pick, opposite, _and_}
-use Rattle.seqs.specs.Bytes.{be64, allZero}
+use Rattle.seqs.specs.Choose.{pick, opposite, either-no, _and_}
+use Rattle.seqs.specs.Bytes.{be64, allZero, same-refl}
 use Rattle.hex.specs.Hex.{isDigit, valueOf, digitOf, lineOf, bytesOf}
 use Rattle.hex.proofs.Laws.{bytes-length}
+use Rattle.paper.specs.declared.Record.{Record}
 use Rattle.paper.specs.declared.Registers.{Registers}
-use Rattle.paper.specs.Strings.{Dig, nought, Str, node, cost, digestOf, parentForms, up, upForms, foldForms, malformed, inGap, recordHash, H}
-use Rattle.paper.specs.Requests.{mostSiblings, kinds, known, fits, requestOf}
-use Rattle.paper.specs.Refusals.{longestFrame}
-use Rattle.paper.specs.Module.{unopened, answerTo}
+use Rattle.paper.specs.declared.Values.{Values}
+use Rattle.paper.specs.Strings.{Dig, nought, v1, Str, node, cost, digestOf, memorandum, parentForms, up, upForms, foldForms, blank, malformed, sillyMass, inGap, recordHash, H}
+use Rattle.paper.specs.Requests as Q
+use Rattle.paper.specs.Requests.{Request, mostSiblings, kinds, kindOf, known, fits, requestOf}
+use Rattle.paper.specs.Refusals.{longestFrame, replyRoom, top, nextRecord, clearedRecord, leafOf, changeSays, needs}
+use Rattle.paper.specs.Module.{Told, unopened, answerTo}
 use Rattle.paper.proofs.Frames.{fits-path}
 use Rattle.paper.proofs.Ceilings.{cost-append}
-use Rattle.paper.proofs.Early.{none-early}
+use Rattle.paper.proofs.Early.{late, none-early, read-is}
 use Rattle.paper.proofs.Room.{room}
-use Rattle.paper.specs.ByHand.{ByHand, NoneZero, NoZeroDigest, PathOf64, ones, PathReaches259, EdgesOf65, EveryRow, table, Runs, wholeRun}
+use Rattle.paper.proofs.Verdicts.{firstOf, number-is}
+use Rattle.paper.specs.ByHand.{ByHand, NoneZero, NoZeroDigest, PathOf64, ones, PathReaches259, EdgesOf65, EveryRow, table, ReadsAs, setRow, clearRow, askRow, MassRowSays, EveryMassRow, masses, Runs, wholeRun}
 
 rows : (D : List ℕ → Dig) (u : Dig) → EveryRow D (table u)
 unfolding inGap H recordHash malformed
 rows D u =
     refl and refl and refl and refl and refl and refl and refl and refl and refl and refl and refl and refl and refl
     and refl and refl and refl and refl and refl and refl and refl and refl and refl and refl and refl
-    and refl and refl and refl and refl and tt
+    and refl and refl and refl and refl and refl and refl and refl and refl and refl and refl and refl and refl and refl and refl
+    and refl and refl and refl and refl and refl and tt
 
 -- q above, below or equal to A
 gap-of-one : (q A : ℕ) → eqb q 0 ≡ false → inGap q A A ≡ opposite (eqb q A)
@@ -128,6 +133,78 @@ edges D s l =
       gets-1 = λ n. rw (n, early .of-15) refl;
     }
 
+-- a line that is read gets its request's first number
+judged : (D : List ℕ → Dig) (s : Registers) (line : List ℕ) (kind : ℕ) (q : Request) → known kind ≡ true → ReadsAs line kind q
+    → answerTo D s line replyRoom .refusal ≡ firstOf late (needs D s q)
+judged D s line kind q k r =
+    ap (λ (t : Told). t .refusal) (read-is D s line replyRoom refl (r .hex) (rw (r .of-kind) k) (r .fit))
+    ∙ number-is D s (kindOf (bytesOf line)) (requestOf (bytesOf line)) late [] (needs D s (requestOf (bytesOf line)))
+    ∙ ap (λ (p : Request). firstOf late (needs D s p)) (r .request)
+
+-- which of its checks a set, a clear or an ask comes to when all else is right
+abbrev setNumber : (A : ℕ) (old : Record) (mass counter : ℕ) → ℕ
+setNumber A old mass c =
+    pick (eqb A 0) 4 (pick (malformed old) 5 (pick (sillyMass mass) 16 (pick (eqb c top) 7 0)))
+
+abbrev clearNumber : Record → ℕ
+clearNumber old = pick (malformed old) 5 (pick (blank old) 11 0)
+
+abbrev askNumber : Record → ℕ
+askNumber r = pick (malformed r) 5 0
+
+module _ (D : List ℕ → Dig) (s : Registers) (o : s .opened ≡ true) where
+  set-first : (A A′ : ℕ) (old : Record) (v : Values) (y′ : Dig) → eqb A′ 0 ≡ false
+      → (let m = memorandum D (changeSays D A A′ old (nextRecord s v) (s .root) y′) (s .secret) in
+      firstOf late (needs D s (Q.setTo A A′ old v (s .root) y′ m)) ≡ setNumber A old (v .mass .0) (s .counter .0))
+  set-first A A′ old v y′ z = simp (o, z, either-no, same-refl)
+
+  clear-first : (A A′ : ℕ) (old : Record) (y′ : Dig) → eqb (s .counter .0) top ≡ false → eqb A 0 ≡ false → eqb A′ 0 ≡ false
+      → (let m = memorandum D (changeSays D A A′ old clearedRecord (s .root) y′) (s .secret) in
+      firstOf late (needs D s (Q.clear A A′ old (s .root) y′ m)) ≡ clearNumber old)
+  clear-first A A′ old y′ t z z′ = simp (o, t, z, z′, either-no, same-refl)
+
+  ask-first : (A A′ : ℕ) (r : Record) → eqb A 0 ≡ false → eqb A′ 0 ≡ false
+      → (let m = memorandum D (v1 (digestOf D (leafOf D A A′ r)) (s .root)) (s .secret) in
+      firstOf late (needs D s (Q.ask A A A′ r (s .root) m)) ≡ askNumber r)
+  ask-first A A′ r z z′ = simp (o, z, z′, eq-eqb A A refl, either-no, same-refl)
+
+module _ (D : List ℕ → Dig) where
+  set-row : (A : ℕ) (old : Record) (mass c n : ℕ) → setNumber A old mass c ≡ n → MassRowSays D (setRow A old mass c n)
+  unfolding known kinds
+  set-row A old mass c n h s A′ v y′ line o e em z r =
+      judged D s line 0x0c _ refl r ∙ set-first D s o A A′ old v y′ z ∙ ap₂ (setNumber A old) em e ∙ h
+
+  clear-row : (old : Record) (n : ℕ) → clearNumber old ≡ n → MassRowSays D (clearRow old n)
+  unfolding known kinds
+  clear-row old n h s A A′ y′ line o t z z′ r = judged D s line 0x0d _ refl r ∙ clear-first D s o A A′ old y′ t z z′ ∙ h
+
+  ask-row : (r : Record) (n : ℕ) → askNumber r ≡ n → MassRowSays D (askRow r n)
+  unfolding known kinds
+  ask-row r n h s A A′ line o z z′ l = judged D s line 0x0e _ refl l ∙ ask-first D s o A A′ r z z′ ∙ h
+
+  masses-judged : EveryMassRow D masses
+  unfolding sillyMass malformed
+  masses-judged =
+      set-row _ _ _ _ _ refl
+      and set-row _ _ _ _ _ refl
+      and set-row _ _ _ _ _ refl
+      and set-row _ _ _ _ _ refl
+      and set-row _ _ _ _ _ refl
+      and set-row _ _ _ _ _ refl
+      and set-row _ _ _ _ _ refl
+      and set-row _ _ _ _ _ refl
+      and set-row _ _ _ _ _ refl
+      and set-row _ _ _ _ _ refl
+      and set-row _ _ _ _ _ refl
+      and set-row _ _ _ _ _ refl
+      and set-row _ _ _ _ _ refl
+      and set-row _ _ _ _ _ refl
+      and clear-row _ _ refl
+      and clear-row _ _ refl
+      and ask-row _ _ refl
+      and ask-row _ _ refl
+      and tt
+
 run : (D : List ℕ → Dig) → Runs D (unopened nought) wholeRun
 unfolding isDigit valueOf digitOf lineOf kinds known fits requestOf be64 answerTo
 run D = refl and refl and refl and refl and refl and refl and refl and refl and refl and tt
@@ -141,5 +218,6 @@ by-hand =
       path-reaches = path-reaches;
       room = room;
       edges = edges;
+      masses-judged = masses-judged;
       run = run;
     }

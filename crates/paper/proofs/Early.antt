@@ -1,17 +1,20 @@
--- The checks of a line and of its frame come before those of its request: no request needs one of their numbers.
+-- The checks of a line and of its frame come before those of its request: no request needs one of their numbers. So a line that is
+-- read is answered as its request is.
 use mathlib.Core.Path.{_≡_, refl, sym, ap, _∙_}
 use mathlib.Core.Bool.{Bool, true, false, true≢false}
 use mathlib.Core.List.{List, [], _∷_}
 use Prim.Native.Nat.{ℕ}
 use borrow.Author.Tests.{eqb-true}
-use lib.Dec.{eqb}
+use lib.Dec.{eqb, ltb}
 use lib.ListN.{drop}
 use Rattle.seqs.specs.Choose.{pick, both, either, both-true}
+use Rattle.hex.specs.Hex.{bytesOf}
 use Rattle.paper.specs.declared.Registers.{Registers}
 use Rattle.paper.specs.Strings.{Dig}
 use Rattle.paper.specs.Requests as Q
-use Rattle.paper.specs.Requests.{Request}
-use Rattle.paper.specs.Refusals.{Check, order, needs, those}
+use Rattle.paper.specs.Requests.{Request, kindOf, known, fits, requestOf}
+use Rattle.paper.specs.Refusals.{Check, order, replyRoom, isHex, needs, those, judge}
+use Rattle.paper.specs.Module.{toldBy, answerTo}
 
 -- a number is one of some numbers
 abbrev pub among : ℕ → List ℕ → Bool
@@ -73,3 +76,13 @@ none-early D s q =
       of-2 = none-of 2 late cs refl h;
       of-3 = none-of 3 late cs refl h;
     }
+
+-- where no check of the line or of its frame fails, it is answered as its request is
+pub read-is : (D : List ℕ → Dig) (s : Registers) (line : List ℕ) (space : ℕ) → ltb space replyRoom ≡ false
+    → isHex line .fails ≡ false → known (kindOf (bytesOf line)) ≡ true → fits (bytesOf line) ≡ true
+    → (let q = requestOf (bytesOf line) in
+    answerTo D s line space ≡ toldBy D s (kindOf (bytesOf line)) q (judge late [] (needs D s q)))
+unfolding answerTo
+read-is D s line space h i j k =
+    let e = none-early D s (requestOf (bytesOf line)) in
+    rw (h, i, j, k, e .of-15, e .of-1, e .of-2, e .of-3) refl

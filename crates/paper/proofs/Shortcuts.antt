@@ -113,7 +113,7 @@ module _ (D : List ℕ → Dig) where
   comparing s (Q.chain x y m1 z m2) = of-numbers and of-first s [] (ei x y ∷ []) m1 and of-second s (ei y z) m2 and tt
   comparing s (Q.adopt y y′ m) = of-numbers and of-first s [] (ei y y′ ∷ []) m and of-numbers and tt
   comparing s (Q.setTo A A′ old v y y′ m) =
-      of-numbers and of-numbers and of-numbers and of-numbers and of-numbers
+      of-numbers and of-numbers and of-numbers and of-numbers and of-numbers and of-numbers
       and of-change s A A′ old (nextRecord s v) y y′ m and of-numbers and tt
   comparing s (Q.clear A A′ old y y′ m) =
       of-numbers and of-numbers and of-numbers and of-numbers and of-numbers and of-numbers

@@ -12,11 +12,12 @@ use Rattle.seqs.specs.Bytes.{allZero}
 use Rattle.hex.specs.Hex.{allDigits, bytesOf, digitsOf}
 use Rattle.paper.specs.declared.Record.{Record}
 use Rattle.paper.specs.declared.Registers.{Registers}
-use Rattle.paper.specs.Strings.{Dig, nought, Str, leaf, node, entry, memoString, u1, v1, u2, ei, lengthOf, cost, malformed, inGap, digestOf, recordHash, H, foldForms}
-use Rattle.paper.specs.Requests.{mostSiblings, path, kindOf}
-use Rattle.paper.specs.Refusals.{longestFrame, longestLine, replyRoom, top}
+use Rattle.paper.specs.declared.Values.{Values}
+use Rattle.paper.specs.Strings.{Dig, nought, Str, leaf, node, entry, memoString, u1, v1, u2, ei, lengthOf, cost, emptyRecord, malformed, inGap, digestOf, memorandum, recordHash, H, foldForms}
+use Rattle.paper.specs.Requests.{Request, mostSiblings, path, setTo, clear, ask, kindOf, fits, requestOf}
+use Rattle.paper.specs.Refusals.{plain, order, longestFrame, longestLine, replyRoom, isHex, top, nextRecord, clearedRecord, leafOf, changeSays, judge}
 use Rattle.paper.specs.Answers.{answer}
-use Rattle.paper.specs.Module.{unopened, answerTo, replyLine}
+use Rattle.paper.specs.Module.{refusalOf, unopened, answerTo, replyLine}
 
 abbrev four : (revision mass offset rigging : ℕ) → Record
 four a b c d =
@@ -36,6 +37,7 @@ pub data Row : Type 0 where
   blocksRow : (bytes : ℕ) → (many : ℕ) → Row
   lengthRow : Str → (long : ℕ) → Row
   constantRow : (defined written : ℕ) → Row
+  orderRow : (sooner later : ℕ) → Row
 
 abbrev pub RowSays : (D : List ℕ → Dig) → Row → Type 0
 RowSays D (gapRow A A′ q lies) = inGap q A A′ ≡ lies
@@ -45,6 +47,7 @@ RowSays D (malformedRow r is) = malformed r ≡ is
 RowSays D (blocksRow n k) = blocks n ≡ k
 RowSays D (lengthRow s n) = lengthOf s ≡ n
 RowSays D (constantRow n k) = n ≡ k
+RowSays D (orderRow n k) = refusalOf (judge order [] (plain k true ∷ plain n true ∷ [])) ≡ n
 
 -- the table, for any u
 abbrev pub table : (u : Dig) → List Row
@@ -86,6 +89,22 @@ table u =
     ∷ constantRow top 18446744073709551615
     -- §9.3.1: 20 is not in the gap of 5 and 10
     ∷ gapRow 5 10 20 false
+    -- §6.1.1: where a check and the next of the table both fail, it is the first that refuses
+    ∷ orderRow 15 1
+    ∷ orderRow 1 2
+    ∷ orderRow 2 3
+    ∷ orderRow 3 13
+    ∷ orderRow 13 14
+    ∷ orderRow 14 12
+    ∷ orderRow 12 4
+    ∷ orderRow 4 5
+    ∷ orderRow 5 16
+    ∷ orderRow 16 6
+    ∷ orderRow 6 11
+    ∷ orderRow 11 7
+    ∷ orderRow 7 8
+    ∷ orderRow 8 9
+    ∷ orderRow 9 10
     ∷ []
 
 abbrev pub EveryRow : (D : List ℕ → Dig) → List Row → Type 0
@@ -125,6 +144,69 @@ pub record EdgesOf65 (D : List ℕ → Dig) (s : Registers) (l : List ℕ) : Typ
   pub gets-3 : allDigits l ≡ true → length l ≡ longestLine → kindOf (bytesOf l) ≡ 1 → getD (bytesOf l) 65 0 ≡ 65
       → answerTo D s l replyRoom .refusal ≡ 3
   pub gets-1 : length l ≡ 2 * (74 + 32 * 65) → answerTo D s l replyRoom .refusal ≡ 1
+
+-- ── masses, §9.1.10 to §9.1.12 ──
+
+-- a line that is read as a request
+pub record ReadsAs (line : List ℕ) (kind : ℕ) (q : Request) : Type 0 where
+  pub hex : isHex line .fails ≡ false
+  pub of-kind : kindOf (bytesOf line) ≡ kind
+  pub fit : fits (bytesOf line) ≡ true
+  pub request : requestOf (bytesOf line) ≡ q
+
+-- A set of an item by its old record, with a new mass, at some counter; a clear and an ask of an item by its record. Each with its
+-- refusal, or 0.
+pub data MassRow : Type 0 where
+  setRow : (A : ℕ) (old : Record) (mass counter : ℕ) → (refusal : ℕ) → MassRow
+  clearRow : (old : Record) → (refusal : ℕ) → MassRow
+  askRow : (r : Record) → (refusal : ℕ) → MassRow
+
+-- In all of them the module is open, y is its root, m says what it has to and the other numbers are right: but for what
+-- its row says, the line would be accepted.
+abbrev pub MassRowSays : (D : List ℕ → Dig) → MassRow → Type 0
+MassRowSays D (setRow A old mass c n) =
+    (s : Registers) (A′ : ℕ) (v : Values) (y′ : Dig) (line : List ℕ) → s .opened ≡ true → s .counter .0 ≡ c → v .mass .0 ≡ mass
+    → eqb A′ 0 ≡ false
+    → (let m = memorandum D (changeSays D A A′ old (nextRecord s v) (s .root) y′) (s .secret) in
+    ReadsAs line 0x0c (setTo A A′ old v (s .root) y′ m) → answerTo D s line replyRoom .refusal ≡ n)
+MassRowSays D (clearRow old n) =
+    (s : Registers) (A A′ : ℕ) (y′ : Dig) (line : List ℕ) → s .opened ≡ true → eqb (s .counter .0) top ≡ false
+    → eqb A 0 ≡ false → eqb A′ 0 ≡ false
+    → (let m = memorandum D (changeSays D A A′ old clearedRecord (s .root) y′) (s .secret) in
+    ReadsAs line 0x0d (clear A A′ old (s .root) y′ m) → answerTo D s line replyRoom .refusal ≡ n)
+MassRowSays D (askRow r n) =
+    (s : Registers) (A A′ : ℕ) (line : List ℕ) → s .opened ≡ true → eqb A 0 ≡ false → eqb A′ 0 ≡ false
+    → (let m = memorandum D (v1 (digestOf D (leafOf D A A′ r)) (s .root)) (s .secret) in
+    ReadsAs line 0x0e (ask A A A′ r (s .root) m) → answerTo D s line replyRoom .refusal ≡ n)
+
+abbrev pub masses : List MassRow
+masses =
+    -- §9.1.10: a set that would else be accepted; 61,400,000 is what becomes of 61,400 kg when they are typed in grams
+    setRow 432 emptyRecord 0 7 16
+    ∷ setRow 432 emptyRecord 1 7 0
+    ∷ setRow 432 emptyRecord 61400 7 0
+    ∷ setRow 432 emptyRecord 2000000 7 0
+    ∷ setRow 432 emptyRecord 2000001 7 16
+    ∷ setRow 432 emptyRecord 61400000 7 16
+    -- §9.1.11: silly, and something else: item 0, a malformed old record, the counter at its top
+    ∷ setRow 0 emptyRecord 0 7 4
+    ∷ setRow 432 (four 0 5 0 0) 0 7 5
+    ∷ setRow 432 (four 0 5 0 0) 2000001 7 5
+    ∷ setRow 432 emptyRecord 0 top 16
+    ∷ setRow 432 emptyRecord 2000001 top 16
+    ∷ setRow 432 emptyRecord 61400 top 7
+    -- §9.1.12: the mass of a record that is there already
+    ∷ setRow 432 (four 3 0 0 0) 61400 7 0
+    ∷ setRow 432 (four 3 3000000 0 0) 61400 7 0
+    ∷ clearRow (four 3 0 0 0) 0
+    ∷ clearRow (four 3 3000000 0 0) 0
+    ∷ askRow (four 3 0 0 0) 0
+    ∷ askRow (four 3 3000000 0 0) 0
+    ∷ []
+
+abbrev pub EveryMassRow : (D : List ℕ → Dig) → List MassRow → Type 0
+EveryMassRow D [] = Unit {0}
+EveryMassRow D (r ∷ l) = MassRowSays D r × EveryMassRow D l
 
 -- §9.2.1, the whole run: S is 01 thirty-two times, Z 64 digits 0
 
@@ -169,4 +251,5 @@ pub record ByHand : Type 1 where
   pub path-reaches : PathReaches259
   pub room : (D : List ℕ → Dig) → ((l : List ℕ) → length (D l) ≡ 32) → (s : Registers) (line : List ℕ) → SpaceOf195 D s line
   pub edges : (D : List ℕ → Dig) (s : Registers) (l : List ℕ) → EdgesOf65 D s l
+  pub masses-judged : (D : List ℕ → Dig) → EveryMassRow D masses
   pub run : (D : List ℕ → Dig) → Runs D (unopened nought) wholeRun

@@ -11,7 +11,7 @@ use Rattle.hex.specs.Hex.{allDigits}
 use Rattle.paper.specs.declared.Record.{Record}
 use Rattle.paper.specs.declared.Values.{Values}
 use Rattle.paper.specs.declared.Registers.{Registers}
-use Rattle.paper.specs.Strings.{Dig, nought, Memo, u1, v1, u2, ei, Str, leaf, malformed, emptyRecord, blank, recordForms, inGap, digestOf, memorandum, memorandumForms, recordHash}
+use Rattle.paper.specs.Strings.{Dig, nought, Memo, u1, v1, u2, ei, Str, leaf, malformed, emptyRecord, blank, sillyMass, recordForms, inGap, digestOf, memorandum, memorandumForms, recordHash}
 use Rattle.paper.specs.Requests.{Request, path, witness, join, pair, raise, swap, first, place, turn, chain, adopt, setTo, clear, ask, askNone, unlock, known, fits, mostSiblings}
 
 -- A check: its number in the table of refusals, whether it fails (the column "given when"), the strings that it forms, and the
@@ -28,7 +28,7 @@ plain n b = record { number = n; fails = b; forms = []; compares = [] }
 
 -- §6.1.1: the order of the checks
 abbrev pub order : List ℕ
-order = 15 ∷ 1 ∷ 2 ∷ 3 ∷ 13 ∷ 14 ∷ 12 ∷ 4 ∷ 5 ∷ 6 ∷ 11 ∷ 7 ∷ 8 ∷ 9 ∷ 10 ∷ []
+order = 15 ∷ 1 ∷ 2 ∷ 3 ∷ 13 ∷ 14 ∷ 12 ∷ 4 ∷ 5 ∷ 16 ∷ 6 ∷ 11 ∷ 7 ∷ 8 ∷ 9 ∷ 10 ∷ []
 
 -- the numbers of the checks on a request: behind those on the space, the line and the frame
 abbrev pub requestOrder : List ℕ
@@ -88,6 +88,10 @@ notZero n = plain 4 (eqb n 0)
 -- §6.2.5: a malformed record
 abbrev pub wellFormed : Record → Check
 wellFormed r = plain 5 (malformed r)
+
+-- §6.2.16: a silly mass; of a set's new record, and of no other (§5.2.16)
+abbrev pub notSilly : (kilograms : ℕ) → Check
+notSilly n = plain 16 (sillyMass n)
 
 -- §6.2.6: in a place not in the gap (§5.2.6, §9.3.1); in an ask neither the item nor in the gap
 abbrev pub inTheGap : (q A A′ : ℕ) → Check
@@ -204,7 +208,7 @@ module _ (D : List ℕ → Dig) where
   needs s (adopt y y′ m) = isOpen s ∷ first-memo s [] (ei y y′ ∷ []) m ∷ isRoot s y ∷ []
   needs s (setTo A A′ old v y y′ m) =
       let new = nextRecord s v in
-      isOpen s ∷ notZero A ∷ notZero A′ ∷ wellFormed old ∷ belowTop s
+      isOpen s ∷ notZero A ∷ notZero A′ ∷ wellFormed old ∷ notSilly (v .mass .0) ∷ belowTop s
       ∷ first-memo s (changeForms A A′ old new) (changeSays A A′ old new y y′ ∷ []) m ∷ isRoot s y ∷ []
   needs s (clear A A′ old y y′ m) =
       isOpen s ∷ notZero A ∷ notZero A′ ∷ wellFormed old ∷ isRecorded old ∷ belowTop s

@@ -142,6 +142,13 @@ blank r = eqb (r .revision .0) 0
 unfoldable pub malformed : Record → Bool
 malformed r = both (blank r) (opposite (allZero (numbers r)))
 
+-- §3.4.4: a silly mass, none at all or above the heaviest
+abbrev pub heaviest : ℕ
+heaviest = 2000000
+
+unfoldable pub sillyMass : (kilograms : ℕ) → Bool
+sillyMass n = either (eqb n 0) (ltb heaviest n)
+
 -- the string of a record's hash, where there is one (§3.7.7)
 unfoldable pub recordForms : Record → List Str
 recordForms r = pick (blank r) [] (entry r ∷ [])

@@ -1,6 +1,7 @@
-// Items and records by their numbers: whether a record stands for none, whether it is malformed, its bytes, and the gap behind
-// an item. No digest is worked here.
+// Items and records by their numbers: whether a record stands for none, whether it is malformed, whether a mass is silly, a record's
+// bytes, and the gap behind an item. No digest is worked here.
 use paper::Item;
+use paper::Kilograms;
 use paper::Record;
 ghost use mathlib.Core.Path.{_≡_};
 ghost use Rattle.paper.specs.Strings as S;
@@ -30,6 +31,19 @@ pub fn is_malformed(r: Record) -> bool
         return g.0 != 0;
     }
     false
+}
+
+// The heaviest mass that a set may give.
+const HEAVIEST: u64 = 2_000_000;
+
+// Whether a mass is silly: none at all, or more than any load has, as where grams were typed for kilograms.
+pub fn is_silly(mass: Kilograms) -> bool
+    ensures { λ b. ⌜ b ≡ S.sillyMass (mass .0) ⌝ }
+{
+    if mass.0 > HEAVIEST {
+        return true;
+    }
+    mass.0 == 0
 }
 
 // A record's four numbers, one behind the other.

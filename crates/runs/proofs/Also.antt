@@ -23,6 +23,7 @@ use Rattle.runs.proofs.Sides.{side}
 use Rattle.runs.proofs.Runs.{run, stands-of, safety}
 use Rattle.runs.proofs.Readings.{readings-agree}
 use Rattle.runs.proofs.Entries.{book-grows}
+use Rattle.runs.proofs.Masses.{masses-sensible}
 use Rattle.runs.proofs.Ended.{ending-is, honest-ends-nothing, not-ended-before-open, not-ended-by-opening}
 
 module _ (D : List ℕ → Dig) (D32 : (l : List ℕ) → length (D l) ≡ 32) where
@@ -107,6 +108,7 @@ also-for D D32 =
       book-grows = book-grows D D32;
       memoranda-mean = memoranda-mean D D32;
       earliest-stays = earliest-stays D;
+      masses-sensible = masses-sensible D;
     }
 
 pub also : AlsoHolds

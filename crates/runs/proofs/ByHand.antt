@@ -1,33 +1,35 @@
 -- The rows by hand: what is in a list of two and in its ring, and arithmetic.
 use mathlib.Core.Path.{_≡_, refl, sym, ap, _∙_}
-use mathlib.Core.Bool.{true, false, true≢false}
+use mathlib.Core.Bool.{Bool, true, false, true≢false}
 use mathlib.Core.List.{List, [], _∷_, _++_, append-nil, List·Memᴰ·head, List·Memᴰ·tail}
 use mathlib.Core.Logic.{_≢_}
 use Prim.Native.Nat.{ℕ}
 use native.Mathlib.Omega.{arith}
 use lib.Dec.{eqb}
 use lib.ListN.{length}
-use Rattle.seqs.specs.Choose.{either, _and_}
+use Rattle.seqs.specs.Choose.{pick, either, _and_}
 use Rattle.seqs.specs.Bytes.{Bytes, be64, same-refl}
 use Rattle.hex.specs.Hex.{digitsOf}
 use Rattle.paper.specs.declared.Record.{Record}
 use Rattle.paper.specs.declared.Registers.{Registers}
-use Rattle.paper.specs.Strings.{Dig, v1, emptyRecord, blank, malformed, inGap, digestOf, memorandum}
+use Rattle.paper.specs.declared.Values.{Values}
+use Rattle.paper.specs.Strings.{Dig, v1, emptyRecord, blank, malformed, sillyMass, inGap, digestOf, memorandum}
 use Rattle.paper.specs.Requests as Q
-use Rattle.paper.specs.Refusals.{replyRoom, leafOf, needs}
+use Rattle.paper.specs.Refusals.{replyRoom, nextRecord, leafOf, changeSays, needs, judge}
 use Rattle.paper.specs.Answers.{findingOf, findingBytes}
-use Rattle.paper.specs.Module.{Told, answerTo}
+use Rattle.paper.specs.Module.{Told, toldBy, answerTo}
+use Rattle.paper.proofs.Early.{late}
 use Rattle.rings.specs.Trees.{TreeLeaf, points}
 use Rattle.rings.specs.Lists.{ListItem, itemWith, OnList, Unlisted}
 use Rattle.runs.specs.Run.{World}
 use Rattle.runs.specs.Safety.{Neighbours}
-use Rattle.runs.specs.Frames.{recordBytes}
-use Rattle.runs.specs.ByHand.{rotor, small, wishes, findings, EveryListRow, questions, EveryReply, ListByHand}
-use Rattle.runs.specs.Sizes.{InEightBytes, RecordFits}
+use Rattle.runs.specs.Frames.{recordBytes, valuesBytes}
+use Rattle.runs.specs.ByHand.{valuesOf, rotor, small, wishes, findings, EveryListRow, questions, EveryReply, settings, EverySet, ListByHand}
+use Rattle.runs.specs.Sizes.{InEightBytes, ValuesFit, RecordFits}
 use Rattle.runs.proofs.Parts.{IsDigest}
 use Rattle.runs.proofs.Accepted.{NoneFails}
 use Rattle.runs.proofs.Frames.{Sendable}
-use Rattle.runs.proofs.Fed.{told-is}
+use Rattle.runs.proofs.Fed.{told-as, told-is}
 
 -- ── what is listed ──
 
@@ -113,9 +115,12 @@ module _ (D : List ℕ → Dig) where
       and (λ h. no-other (omega arith) (omega arith) (h .2 .1))
       and (λ h. no-other (omega arith) (omega arith) (h .1 .1))
       -- set
-      and ((_, at-5), omega arith)
-      and ((_, at-9), omega arith)
-      and ((_, at-9), omega arith)
+      and ((_, at-5), omega arith, omega arith)
+      and ((_, at-9), omega arith, omega arith)
+      and ((_, at-9), omega arith, omega arith)
+      and (λ h. omega (arith, h .2 .0))
+      and (λ h. omega (arith, h .2 .1))
+      and (λ h. omega (arith, h .2 .1))
       and (λ h. no-other (omega arith) (omega arith) (h .0 .1))
       and (λ h. omega (arith, h .1 .0))
       and (λ h. omega (arith, h .1 .1))
@@ -204,5 +209,44 @@ module _ (D : List ℕ → Dig) (D32 : (l : List ℕ) → length (D l) ≡ 32) (
       and (λ s o n b. reply 7 5 9 emptyRecord s o n b (omega arith) (omega arith) (omega arith) small-none refl refl refl refl refl)
       and tt
 
+  -- ── sets ──
+
+  abbrev setTo9 : Values → (rest : List ℕ) → List ℕ
+  setTo9 v rest = 0x0c ∷ (be64 9 ++ (be64 5 ++ (recordBytes rotor ++ (valuesBytes v ++ rest))))
+
+  -- a set of item 9 whose root and memorandum fit is answered by its mass alone
+  set-said : (v : Values) (silly : Bool) (s : Registers) (y′ : Dig) → s .opened ≡ true → s .counter .0 ≡ 3
+      → sillyMass (v .mass .0) ≡ silly
+      → (let m = memorandum D (changeSays D 9 5 rotor (nextRecord s v) (s .root) y′) (s .secret) in
+      let q = Q.setTo 9 5 rotor v (s .root) y′ m in
+      toldBy D s 0x0c q (judge late [] (needs D s q)) .says ≡ pick silly (0x00 ∷ 0x10 ∷ []) (0x8c ∷ (y′ ++ be64 4)))
+  unfolding malformed
+  set-said v true s y′ o c mass = rw (o, mass) refl
+  set-said v false s y′ o c mass = rw (o, mass, c, same-refl, same-refl (s .root)) refl
+
+  setting : (v : Values) (silly : Bool) (s : Registers) (y′ : Dig) → s .opened ≡ true → s .counter .0 ≡ 3 → length (s .root) ≡ 32
+      → Bytes (s .root) → length y′ ≡ 32 → Bytes y′ → ValuesFit v → sillyMass (v .mass .0) ≡ silly
+      → (let m = memorandum D (changeSays D 9 5 rotor (nextRecord s v) (s .root) y′) (s .secret) in
+      answerTo D s (digitsOf (setTo9 v (s .root ++ (y′ ++ m)))) replyRoom .says ≡ pick silly (0x00 ∷ 0x10 ∷ []) (0x8c ∷ (y′ ++ be64 4)))
+  setting v silly s y′ o c n b n′ b′ fit mass =
+      let w : World = record { registers = s; formed = []; book = []; items = []; changed = 0 } in
+      let m = memorandum D (changeSays D 9 5 rotor (nextRecord s v) (s .root) y′) (s .secret) in
+      let q = Q.setTo 9 5 rotor v (s .root) y′ m in
+      let ok-y : IsDigest (s .root) = record { wide = n; bytes = b } in
+      let ok-y′ : IsDigest y′ = record { wide = n′; bytes = b′ } in
+      let ok-m : IsDigest m = record { wide = D32 _; bytes = DB _ } in
+      let sendable : Sendable q = (omega arith, omega arith, small-rotor, fit, (ok-y, (ok-y′, (ok-m, tt)))) in
+      ap (λ (x : List ℕ). answerTo D s (digitsOf (setTo9 v (s .root ++ (y′ ++ x)))) replyRoom .says) (sym (append-nil m))
+      ∙ ap (λ (x : Told). x .says) (told-as D w q sendable)
+      ∙ set-said v silly s y′ o c mass
+
+  sets : EverySet D settings
+  unfolding be64 sillyMass
+  sets =
+      (λ s y′ o c n b n′ b′. setting (valuesOf 61400 1250 3) false s y′ o c n b n′ b′ (omega arith) refl)
+      and (λ s y′ o c n b n′ b′. setting (valuesOf 2000000 1250 3) false s y′ o c n b n′ b′ (omega arith) refl)
+      and (λ s y′ o c n b n′ b′. setting (valuesOf 61400000 1250 3) true s y′ o c n b n′ b′ (omega arith) refl)
+      and tt
+
 pub by-hand : ListByHand
-by-hand = record { legal = legal; true-findings = true-findings; replies = replies }
+by-hand = record { legal = legal; true-findings = true-findings; replies = replies; sets = sets }

@@ -19,8 +19,7 @@ use Rattle.runs.specs.Frames.{partsOf, frameOf, turnOf, turnsOf}
 use Rattle.runs.specs.Honest.{note}
 use Rattle.runs.specs.Liveness.{AllIssued, fed, HonestTurns}
 use Rattle.runs.proofs.Accepted.{NoneFails, formedAll, all-pass, judge-passed}
-use Rattle.paper.proofs.Early.{late}
-use Rattle.runs.proofs.Lines.{read-is}
+use Rattle.paper.proofs.Early.{late, read-is}
 use Rattle.runs.proofs.Frames.{Sendable, reads-back, line-is-hex, line-is-frame}
 
 -- the same world with other strings and memoranda
@@ -62,9 +61,9 @@ module _ (D : List ℕ → Dig) where
     asked-is : requestOf (bytesOf (turnOf q .line)) ≡ q
     asked-is = let r = reads-back q ok in ap requestOf (line-is-frame q r) ∙ r .read
 
-    pub told-is : NoneFails (needs D s q)
-        → toldAt D w (turnOf q) ≡ toldBy D s (partsOf q .kind) q (allPassed (formedAll late [] (needs D s q)))
-    told-is n =
+    -- the line is answered as its request is
+    pub told-as : toldAt D w (turnOf q) ≡ toldBy D s (partsOf q .kind) q (judge late [] (needs D s q))
+    told-as =
         let r = reads-back q ok in
         let e = line-is-frame q r in
         read-is D s (digitsOf (frameOf q)) replyRoom refl (line-is-hex q r)
@@ -72,6 +71,11 @@ module _ (D : List ℕ → Dig) where
         (subst (λ (f : List ℕ). fits f ≡ true) (sym e) (r .fit))
         ∙ ap (λ (f : List ℕ). toldBy D s (kindOf f) (requestOf f) (judge late [] (needs D s (requestOf f)))) e
         ∙ ap (λ (p : Request). toldBy D s (partsOf q .kind) p (judge late [] (needs D s p))) (r .read)
+
+    pub told-is : NoneFails (needs D s q)
+        → toldAt D w (turnOf q) ≡ toldBy D s (partsOf q .kind) q (allPassed (formedAll late [] (needs D s q)))
+    told-is n =
+        told-as
         ∙ ap (toldBy D s (partsOf q .kind) q) (judge-passed late [] (needs D s q) (all-pass late (needs D s q) n))
 
     -- the line is accepted and honest, and the world after it is the one that its answer leaves

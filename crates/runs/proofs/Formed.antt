@@ -167,7 +167,7 @@ module _ (D : List ℕ → Dig) (D32 : (l : List ℕ) → length (D l) ≡ 32) w
   at-top s kind A A′ old v y y′ m h =
       let q = Q.setTo A A′ old v y y′ m in
       stopped s kind q (numbersBefore 7 late) 7 (8 ∷ 9 ∷ 10 ∷ []) (needs D s q)
-      (refl and refl and refl and refl and refl and refl and refl and tt) refl (rw h refl)
+      (refl and refl and refl and refl and refl and refl and refl and refl and tt) refl (rw h refl)
 
   -- Else a module that is not open refuses by 13, before it forms any; and with a secret of 32 bytes all that the checks form
   -- is well formed.
@@ -241,7 +241,7 @@ module _ (D : List ℕ → Dig) (D32 : (l : List ℕ) → length (D l) ≡ 32) w
             let new = nextRecord s v in
             let new-small : RecordFits new = (below-top (s .counter .0) c e, w .3 .0, w .3 .1, w .3 .2) in
             of-checks (λ o. rw o refl) (λ k.
-            tt and tt and tt and tt and tt
+            tt and tt and tt and tt and tt and tt
             and says-change A A′ old new y y′ m (w .0) (w .1) (w .2) new-small (w .4) (w .5) k and tt and tt)
     forms (Q.clear A A′ old y y′ m) c w =
         of-checks (λ o. rw o refl) (λ k.

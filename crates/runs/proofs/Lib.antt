@@ -8,6 +8,7 @@
 -- Lines       what any line comes to: refused, or accepted with no check of its request applying
 --
 -- Any run is safe or has ended
+-- Masses      masses by their bounds; no record that a run lists has a silly one
 -- Formed      every string formed is well formed; a module that is not open forms none
 -- Book        every memorandum issued means what its string says
 -- Sides       what no memorandum bears on: the counter's width, the secret's, the strings, a closed module
@@ -44,6 +45,7 @@ pub mod Parts
 pub mod Frames
 pub mod Accepted
 pub mod Lines
+pub mod Masses
 pub mod Formed
 pub mod Book
 pub mod Sides

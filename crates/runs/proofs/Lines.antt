@@ -15,7 +15,7 @@ use Rattle.paper.specs.Strings.{Dig, Str}
 use Rattle.paper.specs.Requests.{Request, kindOf, known, fits, requestOf}
 use Rattle.paper.specs.Refusals.{replyRoom, isHex, Check, needs, formedAt, Verdict, refusedBy, allPassed, formedBy, judge}
 use Rattle.paper.specs.Module.{Told, toldBy, answerTo}
-use Rattle.paper.proofs.Early.{late, numbered-late, none-early}
+use Rattle.paper.proofs.Early.{late, numbered-late, none-early, read-is}
 use Rattle.rings.specs.Meanings.{Within}
 use Rattle.runs.specs.Run.{LineTurn}
 use Rattle.runs.proofs.Accepted.{NoneApplies, none-applies, judge-passed, accepted-passed, number-formed}
@@ -56,12 +56,6 @@ module _ (D : List ℕ → Dig) (s : Registers) (line : List ℕ) (space : ℕ) 
 
   -- ── a line that is read ──
 
-  -- where no check of the line or of its frame fails, it is answered as its request is
-  pub read-is : ltb space replyRoom ≡ false → isHex line .fails ≡ false → known (kindOf f) ≡ true → fits f ≡ true
-      → answerTo D s line space ≡ toldBy D s (kindOf f) q (judge late [] cs)
-  unfolding answerTo
-  read-is h i j k = let e = none-early D s q in rw (h, i, j, k, e .of-15, e .of-1, e .of-2, e .of-3) refl
-
   by-verdict : (v : Verdict) → judge late [] cs ≡ v → Wide q → answerTo D s line space ≡ toldBy D s (kindOf f) q v → Sorted
   unfolding isPassed
   by-verdict (refusedBy n fs) j h e = refusal n fs zero-not e (inr (h, j))
@@ -101,7 +95,7 @@ module _ (D : List ℕ → Dig) (s : Registers) (line : List ℕ) (space : ℕ) 
   by-tests false false true false h i j k =
       refusal 3 [] (λ z. omega arith) (let e = none-early D s q in rw (h, i, j, k, e .of-15, e .of-1, e .of-2, e .of-3) refl)
       (inl refl)
-  by-tests false false true true h i j k = by-verdict (judge late [] cs) refl (wide f (line-bytes line) j k) (read-is h i j k)
+  by-tests false false true true h i j k = by-verdict (judge late [] cs) refl (wide f (line-bytes line) j k) (read-is D s line space h i j k)
 
   pub sorted : Sorted
   sorted = by-tests (ltb space replyRoom) (isHex line .fails) (known (kindOf f)) (fits f) refl refl refl refl

@@ -98,7 +98,7 @@ module _ (D : List ℕ → Dig) (D32 : (l : List ℕ) → length (D l) ≡ 32) (
     granted (setRecord A v) h =
         let new = nextRecord s v in
         grants (setRecord A v) (w .changed + 1)
-        (set-brings g A v (h .0 .0) (h .0 .1) (h .1) below) refl
+        (set-brings g A v (h .0 .0) (h .0 .1) (h .1) (h .2) below) refl
         (ap (λ (n : ℕ). n + 1) (g .counter)) (put-ascending 0 A new (w .items) (g .ascending))
         (rewritten-holds g A (h .0 .0) new (h .0 .1))
         (put-fits A new (w .items) (next-fits s v below (h .1)) (next-well-formed s v) (g .fits)) tt tt

@@ -33,9 +33,11 @@ use Rattle.rings.proofs.TreeKinds as T
 use Rattle.rings.proofs.RingKinds as R
 use Rattle.rings.proofs.InPaper as P
 use Rattle.runs.specs.Run.{BookReading, Items, stepsFor, meaning, World, landed}
+use Rattle.runs.specs.Sizes.{SensibleMass}
 use Rattle.runs.specs.Safety.{TrueFinding, LegalEffect}
 use Rattle.runs.specs.Also.{AllBacked}
 use Rattle.runs.proofs.Book.{entered-none, entry-by, book-more, book-enter}
+use Rattle.runs.proofs.Masses.{sensible}
 use Rattle.runs.proofs.Carried as C
 use Rattle.runs.proofs.Carried.{Given, Or, Asked, asked-at}
 
@@ -187,7 +189,7 @@ module _ (D : List ℕ → Dig) (D32 : (l : List ℕ) → length (D l) ≡ 32) w
         → malformed old ≡ false → malformed new ≡ false → hashOf D (v .tree) ≡ y
         → answer D s q .after .root ≡ y′ → answer D s q .after .counter .0 ≡ s .counter .0 + 1
         → answer D s q .effect ≡ changes A new → (blank new ≡ true → blank old ≡ false)
-        → (new .revision .0 ≡ s .counter .0 + 1) ⊎ (new ≡ clearedRecord) → Comes q
+        → ((new .revision .0 ≡ s .counter .0 + 1) × SensibleMass (new .mass .0)) ⊎ (new ≡ clearedRecord) → Comes q
     changed {q} g A A′ old new y y′ m e ok ok′ r e₁ e₂ e₃ full next = do
       let a = asked-at D w (G q) g 8 (changeForms D A A′ old new) (changeSays D A A′ old new y y′ ∷ []) m e
       u ← means-after a
@@ -279,7 +281,7 @@ module _ (D : List ℕ → Dig) (D32 : (l : List ℕ) → length (D l) ≡ 32) w
       )
     accepted (Q.setTo A A′ old v y y′ m) g =
         changed g A A′ old (nextRecord s v) y y′ m refl (the-one (g .passes 5)) (set-sound v) (at-root y (g .passes 10)) refl refl refl
-        (λ e. absurd (true≢false (sym e ∙ set-recorded v))) (inl refl)
+        (λ e. absurd (true≢false (sym e ∙ set-recorded v))) (inl (refl, sensible (v .mass .0) (the-one (g .passes 16))))
     accepted (Q.clear A A′ old y y′ m) g =
         changed g A A′ old clearedRecord y y′ m refl (the-one (g .passes 5)) cleared-sound (at-root y (g .passes 10)) refl refl refl
         (λ e. the-one (g .passes 11)) (inr refl)

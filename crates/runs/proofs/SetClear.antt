@@ -21,11 +21,12 @@ use Rattle.runs.specs.Run.{World}
 use Rattle.runs.specs.Ways.{nextOf, isOf, found, wayTo, rise, Edit, risen}
 use Rattle.runs.specs.TreesAfter.{treeRewritten}
 use Rattle.runs.specs.Honest.{recordOf, sayU1, note, onePlace, rewritten, setLines, clearLines}
-use Rattle.runs.specs.Sizes.{ValuesFit, ItemFits}
+use Rattle.runs.specs.Sizes.{ValuesFit, SensibleMass, ItemFits}
 use Rattle.runs.proofs.Parts.{IsDigest, AllDigests}
 use Rattle.runs.proofs.Climbs.{rise-digest}
 use Rattle.runs.proofs.Places.{rise-plug, located, regrown-one}
 use Rattle.runs.proofs.Sizes.{record-is}
+use Rattle.runs.proofs.Masses.{not-silly}
 use Rattle.runs.proofs.Fed.{at, Got, Brings, brings-also, leads-on, leads-one, brings}
 use Rattle.runs.proofs.Reach.{is-open, note-digest, fits-own, one-place}
 use Rattle.runs.proofs.Adopts.{not-zero, at-root}
@@ -88,18 +89,18 @@ module _ {D : List ℕ → Dig} {w : World} {T : Tree} (g : Ground D w T) where
   not-at-top : (c : ℕ) → c < top → eqb c top ≡ false
   not-at-top c h = ne-eqb c top (λ e. omega arith)
 
-  pub set-brings : (A : ℕ) (v : Values) (r : Record) → OnList A r (w .items) → ValuesFit v → s .counter .0 < top
+  pub set-brings : (A : ℕ) (v : Values) (r : Record) → OnList A r (w .items) → ValuesFit v → SensibleMass (v .mass .0) → s .counter .0 < top
       → Brings D w (setLines D s A v T (w .items)) (raised s (hashOf D (treeRewritten D A (nextRecord s v) T)))
       (putRecord A (nextRecord s v) (w .items)) (w .changed + 1)
-  set-brings A v r m fit below =
+  set-brings A v r m fit mass below =
       let u = rewrites A r (nextRecord s v) m in
       let h = u .lines in
       brings-also D refl (ap (raised s) (u .new-root)) refl
       (brings D (leads-on D (h .leads)
       (leads-one D (at w (h .formed) (h .book)) (Q.setTo A _ _ v _ _ _)
       (u .item .number-fits, u .spot .next-fits, u .item .record-fits, fit, u .digests)
-      (is-open (g .ready) and u .numbered and u .next-numbered and u .item .well-formed and not-at-top (s .counter .0) below
-      and u .fits and u .at-root and tt)
+      (is-open (g .ready) and u .numbered and u .next-numbered and u .item .well-formed and not-silly (v .mass .0) mass
+      and not-at-top (s .counter .0) below and u .fits and u .at-root and tt)
       (h .got, tt))))
 
   pub clear-brings : (A : ℕ) (r : Record) → OnList A r (w .items) → blank r ≡ false → s .counter .0 < top

@@ -1,7 +1,7 @@
 -- What else holds of runs: the root settles the list; both readings of memoranda come to one list, so that honest lines do for
 -- the replay of runs what they do by their own reading; the endings are the only way out, and neither opening nor honest lines
--- are one; the book grows by the memoranda that replies list, and each means what it says; and what is read by the earliest line
--- stays as that line meant it.
+-- are one; the book grows by the memoranda that replies list, and each means what it says; what is read by the earliest line stays as
+-- that line meant it; and no record on the list has a silly mass.
 use mathlib.Core.Path.{_≡_}
 use mathlib.Core.Bool.{true, false}
 use mathlib.Core.List.{List, [], _∷_, _++_}
@@ -10,15 +10,18 @@ use Prim.Native.Nat.{ℕ, _-_, _≤_, _<_}
 use lib.ListN.{length, drop}
 use Rattle.sha256.specs.Hash.{sha256}
 use Rattle.hex.specs.Hex.{bytesOf}
-use Rattle.paper.specs.Strings.{Dig, nought, Memo, Str, digestOf, memorandum, memorandumForms}
+use Rattle.paper.specs.declared.Record.{Record}
+use Rattle.paper.specs.Strings.{Dig, nought, Memo, Str, blank, digestOf, memorandum, memorandumForms}
 use Rattle.paper.specs.Requests.{kindOf}
 use Rattle.paper.specs.Collisions.{Collision}
 use Rattle.rings.specs.Trees.{Tree}
+use Rattle.rings.specs.Lists.{OnList}
 use Rattle.rings.specs.Endings.{ZeroDigest}
 use Rattle.rings.specs.Meanings.{Within, MemoMeans}
 use Rattle.runs.specs.Run.{LineTurn, Items, Issue, stepsFor, isIssued, World, toldAt, after}
 use Rattle.runs.specs.Endings.{Forged, Ending}
 use Rattle.runs.specs.Safety.{TreeStands, SafeRun}
+use Rattle.runs.specs.Sizes.{SensibleMass}
 use Rattle.runs.specs.Wishes.{Wish}
 use Rattle.runs.specs.Outcomes.{itemsAfter}
 use Rattle.runs.specs.Liveness.{latestFirst, fed, HonestTurns, GrantsWish}
@@ -136,6 +139,12 @@ module _ (D : List ℕ → Dig) where
   abbrev pub MemorandaMean : Type 0
   MemorandaMean = (k : Dig) (ts : List LineTurn) → Ending D k ts ⊎ AllBacked (after D k ts .formed) (after D k ts .book)
 
+  -- §5.2.16: every record on the list, where it stands for one at all, has a mass that is not silly, whatever lines were sent, after an
+  -- ending too. So no finding that is true of the list shows a silly one.
+  abbrev pub MassesSensible : Type 0
+  MassesSensible = (k : Dig) (ts : List LineTurn) (A : ℕ) (r : Record) → OnList A r (after D k ts .items) → blank r ≡ false
+      → SensibleMass (r .mass .0)
+
   pub record AlsoFor : Type 0 where
     pub nothing-to-show : NothingToShow
     pub root-settles : RootSettlesList
@@ -149,6 +158,7 @@ module _ (D : List ℕ → Dig) where
     pub book-grows : BookGrows
     pub memoranda-mean : MemorandaMean
     pub earliest-stays : EarliestStays
+    pub masses-sensible : MassesSensible
 
 -- for SHA-256, and for any digest of 32 bytes
 pub record AlsoHolds : Type 0 where

@@ -1,5 +1,5 @@
--- What is legal and what is true of one short list, row by row, and the replies to three questions, byte by byte, as tables under
--- one statement, `ListByHand`: a definition of `LegalWish` or of `TrueFinding` made narrower or wider breaks a row. `proofs/ByHand`
+-- What is legal and what is true of one short list, row by row, and the replies to three questions and three sets, byte by byte, as
+-- tables under one statement, `ListByHand`: a definition of `LegalWish` or of `TrueFinding` made narrower or wider breaks a row. `proofs/ByHand`
 -- shows it.
 use mathlib.Core.Path.{_≡_}
 use mathlib.Core.Bool.{true}
@@ -14,7 +14,7 @@ use Rattle.paper.specs.declared.Values.{Values}
 use Rattle.paper.specs.declared.Finding.{Finding}
 use Rattle.paper.specs.declared.Finding.the-variants.{Recorded, Listed as Empty, Gap}
 use Rattle.paper.specs.Strings.{Dig, v1, emptyRecord, digestOf, memorandum}
-use Rattle.paper.specs.Refusals.{replyRoom, leafOf}
+use Rattle.paper.specs.Refusals.{replyRoom, nextRecord, leafOf, changeSays}
 use Rattle.paper.specs.Module.{answerTo}
 use Rattle.rings.specs.Lists.{itemWith}
 use Rattle.runs.specs.Run.{Items}
@@ -82,8 +82,11 @@ wishes =
     ∷ forbids (swapPlaces 5 7)
     ∷ forbids (swapPlaces 7 9)
     ∷ permits (setRecord 5 (valuesOf 68900 1250 3))
-    ∷ permits (setRecord 9 (valuesOf 0 0 0))
-    ∷ permits (setRecord 9 (valuesOf (2 ^ 64 - 1) (2 ^ 64 - 1) (2 ^ 64 - 1)))
+    ∷ permits (setRecord 9 (valuesOf 1 0 0))
+    ∷ permits (setRecord 9 (valuesOf 2000000 (2 ^ 64 - 1) (2 ^ 64 - 1)))
+    ∷ forbids (setRecord 9 (valuesOf 0 0 0))
+    ∷ forbids (setRecord 9 (valuesOf 2000001 0 0))
+    ∷ forbids (setRecord 9 (valuesOf 61400000 1250 3))
     ∷ forbids (setRecord 7 (valuesOf 68900 1250 3))
     ∷ forbids (setRecord 5 (valuesOf (2 ^ 64) 1250 3))
     ∷ forbids (setRecord 5 (valuesOf 68900 (2 ^ 64) 3))
@@ -191,7 +194,49 @@ abbrev pub EveryReply : (D : List ℕ → Dig) → List Question → Type 0
 EveryReply D [] = Unit {0}
 EveryReply D (x ∷ l) = RepliedSo D x × EveryReply D l
 
+-- A set of item 9, whose next is 5 and whose record is `rotor`, put to an open module whose counter is 3: its values, its frame
+-- written out up to its root y, which is the module's; y', any digest; its memorandum, which fits. And every byte of the reply.
+pub record Setting : Type 0 where
+  pub values : Values
+  pub frame : List ℕ
+  pub says : (y′ : Dig) → List ℕ
+
+abbrev setFrame : (mass : List ℕ) → List ℕ
+setFrame mass =
+    0x0c ∷ eight 0x00 0x00 0x09 ++ eight 0x00 0x00 0x05 ++ rotorBytes ++ mass ++ eight 0x00 0x04 0xe2 ++ eight 0x00 0x00 0x03
+
+-- 61,400 kg; the heaviest mass; and 61,400 kg typed in grams (§6.2.16)
+abbrev pub settings : List Setting
+settings =
+    record {
+      values = valuesOf 61400 1250 3;
+      frame = setFrame (eight 0x00 0xef 0xd8);
+      says = λ y′. 0x8c ∷ y′ ++ eight 0x00 0x00 0x04;
+    }
+    ∷ record {
+      values = valuesOf 2000000 1250 3;
+      frame = setFrame (eight 0x1e 0x84 0x80);
+      says = λ y′. 0x8c ∷ y′ ++ eight 0x00 0x00 0x04;
+    }
+    ∷ record {
+      values = valuesOf 61400000 1250 3;
+      frame = setFrame (0x00 ∷ 0x00 ∷ 0x00 ∷ 0x00 ∷ 0x03 ∷ 0xa8 ∷ 0xe3 ∷ 0xc0 ∷ []);
+      says = λ y′. 0x00 ∷ 0x10 ∷ [];
+    }
+    ∷ []
+
+abbrev pub SetSo : (D : List ℕ → Dig) → Setting → Type 0
+SetSo D x = (s : Registers) (y′ : Dig) → s .opened ≡ true → s .counter .0 ≡ 3 → length (s .root) ≡ 32 → Bytes (s .root)
+    → length y′ ≡ 32 → Bytes y′
+    → (let m = memorandum D (changeSays D 9 5 rotor (nextRecord s (x .values)) (s .root) y′) (s .secret) in
+    answerTo D s (digitsOf (x .frame ++ (s .root ++ (y′ ++ m)))) replyRoom .says ≡ x .says y′)
+
+abbrev pub EverySet : (D : List ℕ → Dig) → List Setting → Type 0
+EverySet D [] = Unit {0}
+EverySet D (x ∷ l) = SetSo D x × EverySet D l
+
 pub record ListByHand : Type 0 where
   pub legal : (D : List ℕ → Dig) → EveryListRow D wishes
   pub true-findings : (D : List ℕ → Dig) → EveryListRow D findings
   pub replies : (D : List ℕ → Dig) → ((l : List ℕ) → length (D l) ≡ 32) → ((l : List ℕ) → Bytes (D l)) → EveryReply D questions
+  pub sets : (D : List ℕ → Dig) → ((l : List ℕ) → length (D l) ≡ 32) → ((l : List ℕ) → Bytes (D l)) → EverySet D settings

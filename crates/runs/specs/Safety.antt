@@ -20,7 +20,7 @@ use Rattle.rings.specs.Trees.{Tree, points, leaves, hashOf, SameLeaves}
 use Rattle.rings.specs.Lists.{AscendingFrom, OnList, Unlisted, ring}
 use Rattle.rings.specs.Changes.{LegalSteps}
 use Rattle.runs.specs.Run.{LineTurn, Items, stepsFor, World, toldAt, after}
-use Rattle.runs.specs.Sizes.{ItemsFit}
+use Rattle.runs.specs.Sizes.{SensibleMass, ItemsFit}
 use Rattle.runs.specs.Endings.{Ending}
 
 -- the number q that a question's frame carries behind its kind
@@ -56,14 +56,14 @@ module _ (D : List ℕ → Dig) where
     pub ask-of-none : kindOf f ≡ 0x0f → (says ≡ 0x8f ∷ be64 (questionIn f)) × (l ≡ [])
 
   -- each adopted change was legal where it was adopted; a record changes only at a listed item, into one whose revision is the
-  -- raised counter or into none, and is emptied only where there was one
+  -- raised counter and whose mass is not silly (§7.3.4) or into none, and is emptied only where there was one
   abbrev pub LegalEffect : World → Effect → Type 0
   LegalEffect w none′ = Unit {0}
   LegalEffect w (issues t c) = Unit {0}
   LegalEffect w (adopts m) = LegalSteps (stepsFor m (w .book)) (w .items)
   LegalEffect w (changes A r) =
       (s : Record) × OnList A s (w .items) × (blank r ≡ true → blank s ≡ false)
-      × ((r .revision .0 ≡ w .registers .counter .0 + 1) ⊎ (r ≡ clearedRecord))
+      × (((r .revision .0 ≡ w .registers .counter .0 + 1) × SensibleMass (r .mass .0)) ⊎ (r ≡ clearedRecord))
 
   -- one line at its world
   pub record FairLine (w : World) (t : LineTurn) : Type 0 where

@@ -8,7 +8,7 @@ use Rattle.paper.specs.declared.Values.{Values}
 use Rattle.paper.specs.Strings.{emptyRecord, blank}
 use Rattle.rings.specs.Lists.{OnList, Unlisted}
 use Rattle.runs.specs.Run.{Items}
-use Rattle.runs.specs.Sizes.{InEightBytes, ValuesFit}
+use Rattle.runs.specs.Sizes.{InEightBytes, ValuesFit, SensibleMass}
 
 pub data Wish : Type 0 where
   insertItem : (A : ℕ) → Wish
@@ -26,6 +26,6 @@ abbrev pub LegalWish : Items → Wish → Type 0
 LegalWish l (insertItem A) = (0 < A) × InEightBytes A × Unlisted A l
 LegalWish l (removeItem A) = OnList A emptyRecord l
 LegalWish l (swapPlaces A B) = (A ≢ B) × IsListed A l × IsListed B l
-LegalWish l (setRecord A v) = IsListed A l × ValuesFit v
+LegalWish l (setRecord A v) = IsListed A l × ValuesFit v × SensibleMass (v .mass .0)
 LegalWish l (clearRecord A) = (r : Record) × OnList A r l × (blank r ≡ false)
 LegalWish l (askAbout q) = (0 < q) × InEightBytes q
