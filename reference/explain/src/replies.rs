@@ -11,7 +11,7 @@ use super::{kind_of, kind_words, wrong_length, Bad};
 use reference::frames::{Request, BAD_LENGTH, BAD_LINE, NO_SPACE, UNKNOWN_KIND};
 use reference::module::{
     ALREADY_OPEN, CLEAR_OF_EMPTY, COUNTER_AT_TOP, FIRST_MEMORANDUM, MALFORMED, NOT_IN_GAP,
-    NOT_OPEN, SECOND_MEMORANDUM, STALE, ZERO_NUMBER, ZERO_SECRET,
+    NOT_OPEN, SECOND_MEMORANDUM, SENSIBLE_KG, SILLY_MASS, STALE, ZERO_NUMBER, ZERO_SECRET,
 };
 use reference::strings::{Digest, Formed, Record};
 
@@ -88,6 +88,11 @@ pub fn wrong_with(number: u8, request: Option<&Request>) -> String {
         (NOT_IN_GAP, Some(Request::Ask { q, item, next, .. })) => {
             return format!("item {} with item {} next says nothing about item {}", item, next, q)
         }
+        (SILLY_MASS, Some(Request::Set { values: [0, ..], .. })) => "0 kg is no load's mass",
+        (SILLY_MASS, Some(Request::Set { values: [mass_kg, ..], .. })) => {
+            let most = kilograms(*SENSIBLE_KG.end());
+            return format!("{} is above {}, which no load is", kilograms(*mass_kg), most);
+        }
         (FIRST_MEMORANDUM, Some(request)) if !carries_two(request) => {
             let sent = about("about", request);
             return format!("the memorandum does not fit what the tablet sent{}", sent);
@@ -120,6 +125,7 @@ fn what_to_do(number: u8) -> Option<&'static str> {
         BAD_LENGTH => "send it again, whole",
         ZERO_NUMBER => "use item numbers above 0",
         MALFORMED => "fetch the present record and ask again",
+        SILLY_MASS => "give the mass in kilograms, and not in grams",
         NOT_IN_GAP => "send its true neighbours in the list, or the item itself when asking",
         COUNTER_AT_TOP => "no record can be changed any more, so replace the module",
         FIRST_MEMORANDUM | SECOND_MEMORANDUM => {

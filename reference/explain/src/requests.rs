@@ -11,7 +11,9 @@ use super::words::{
 };
 use super::{kind_of, KINDS};
 use reference::frames::Request;
-use reference::module::{check_clear, check_gap, check_numbers, check_record, ZERO_SECRET};
+use reference::module::{
+    check_clear, check_gap, check_mass, check_numbers, check_record, ZERO_SECRET,
+};
 use reference::strings::{Digest, Record, ZERO};
 
 pub fn sentence(request: &Request) -> String {
@@ -111,6 +113,7 @@ pub fn certain_refusal(request: &Request) -> Option<u8> {
     }
     let checked = check_numbers(request)
         .and_then(|()| check_record(request))
+        .and_then(|()| check_mass(request))
         .and_then(|()| check_gap(request))
         .and_then(|()| check_clear(request));
     checked.err()

@@ -401,6 +401,17 @@ fn every_refusal_says_what_was_wrong_and_what_to_do() {
              fetch the present record and ask again.",
         ),
         (
+            set(432, 562, ROTOR, [61_400_000, 1_120, 7]),
+            16,
+            "Refused (16): 61,400,000 kg is above 2,000,000 kg, which no load is; give the mass in \
+             kilograms, and not in grams.",
+        ),
+        (
+            set(432, 562, ROTOR, [0, 1_120, 7]),
+            16,
+            "Refused (16): 0 kg is no load's mass; give the mass in kilograms, and not in grams.",
+        ),
+        (
             place([5, 20, 10], &ZERO),
             6,
             "Refused (6): item 20 does not lie between item 5 and item 10; send its true \
@@ -524,24 +535,29 @@ fn refusals_that_cannot_be_are_bad_replies() {
             let start = match number {
                 _ if possible.contains(&number) => format!("Refused ({}): ", number),
                 15 => "Bad reply: refusal 15 (".to_string(),
-                1..=14 => format!("Bad reply: refusal {} does not belong to that request.", number),
+                1..=14 | 16 => {
+                    format!("Bad reply: refusal {} does not belong to that request.", number)
+                }
                 _ => format!("Bad reply: there is no refusal {}.", number),
             };
             assert!(sentence.starts_with(&start), "{:02x}: {}", frame[0], sentence);
         }
     }
     // Where a check of the numbers fails, no later one is come to; 13 or 14 is earlier.
-    let stopped: [(Vec<u8>, &[u8]); 7] = [
+    let stopped: [(Vec<u8>, &[u8]); 10] = [
         (first(0), &[4, 13]),
         (ask(0, 432, 562, [0, 1, 0, 0]), &[4, 13]),
         (ask(900, 432, 562, [0, 1, 0, 0]), &[5, 13]),
+        (set(432, 562, [0, 1, 0, 0], [0, 1, 1]), &[5, 13]),
+        (set(432, 562, ROTOR, [0, 1, 1]), &[16, 13]),
+        (set(432, 562, ROTOR, [2_000_001, 1, 1]), &[16, 13]),
         (ask(900, 432, 562, ROTOR), &[6, 13]),
         (place([5, 20, 10], &ZERO), &[6, 13]),
         (clear(432, 562, [0; 4]), &[11, 13]),
         (open(&ZERO), &[12, 14]),
     ];
     for (frame, possible) in stopped {
-        for number in 1..=14 {
+        for number in 1..=16 {
             let fits = told_reply(&frame, &[0, number]).starts_with("Refused (");
             assert_eq!(fits, possible.contains(&number), "{:02x} {}", frame[0], number);
         }
@@ -549,7 +565,7 @@ fn refusals_that_cannot_be_are_bad_replies() {
     // A bad line gets its own refusal and nothing else.
     let bad: [(Vec<u8>, u8); 3] = [(vec![], 1), (vec![0xff], 2), (vec![0x0f], 3)];
     for (frame, own) in bad {
-        for number in 1..=14 {
+        for number in 1..=16 {
             let fits = told_reply(&frame, &[0, number]).starts_with("Refused (");
             assert_eq!(fits, number == own, "{:?} {}", frame, number);
         }
@@ -575,6 +591,13 @@ fn requests_that_no_module_accepts_are_told_so() {
              kg, offset 0 mm, rigging code 0), in the list of root 33333333…, as memorandum \
              a1a1a1a1… should show – no module accepts this (refusal 5: a record without a \
              revision may hold nothing else).",
+        ),
+        (
+            set(432, 562, ROTOR, [61_400_000, 1_120, 7]),
+            "Set: give item 432 (next item 562) 61,400,000 kg, offset 1,120 mm, rigging code 7 in \
+             place of revision 3, 61,400 kg, offset 1,120 mm, rigging code 7, root 33333333… \
+             becoming root 44444444…, as memorandum a1a1a1a1… should show – no module accepts this \
+             (refusal 16: 61,400,000 kg is above 2,000,000 kg, which no load is).",
         ),
         (
             ask(900, 432, 562, [0; 4]),
@@ -1034,7 +1057,7 @@ fn real_sessions_are_told_truly() {
             let hopeless = asked.contains(" – no module accepts this (refusal ");
             let shown = format!("(refusal {}: ", refusal);
             assert!(!hopeless || matches!(refusal, 13 | 14) || asked.contains(&shown), "{}", asked);
-            assert!(hopeless || !matches!(refusal, 4 | 5 | 6 | 11 | 12), "{}", asked);
+            assert!(hopeless || !matches!(refusal, 4 | 5 | 6 | 11 | 12 | 16), "{}", asked);
 
             // The masses stand in both sentences. A set's new mass is its 50th byte on,
             // that in a finding the 19th on.
@@ -1058,7 +1081,7 @@ fn real_sessions_are_told_truly() {
     for kind in kinds.split(", ") {
         assert!(told.contains_key(&(kind.to_string(), 0)), "no {} was accepted", kind);
     }
-    for refusal in (1..=14).filter(|number| *number != 7) {
+    for refusal in (1..=16).filter(|number| ![7, 15].contains(number)) {
         assert!(told.keys().any(|(_, number)| *number == refusal), "no refusal {}", refusal);
     }
 }

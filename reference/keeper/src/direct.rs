@@ -263,7 +263,7 @@ impl Maker<'_> {
     /// memorandum is then the one that a counter which wraps, or stays, would fit.
     fn set(&mut self) -> Request {
         let (item, next, old) = (self.item(), self.item(), self.record());
-        let values = [self.random.number(), self.random.number(), self.random.number()];
+        let values = [self.mass(), self.random.number(), self.random.number()];
         let revision = match self.random.below(12) {
             0 => self.counter,
             1 => self.counter.saturating_add(1),
@@ -273,6 +273,18 @@ impl Maker<'_> {
         let new = Record { revision, mass_kg, offset_mm, rigging };
         let [y, y_new, m] = self.change([item, next], [old, new]);
         Request::Set { item, next, old, values, y, y_new, m }
+    }
+
+    /// Mostly a mass that a set may give; both of its edges and what lies beyond them.
+    fn mass(&mut self) -> u64 {
+        match self.random.below(12) {
+            0 => 0,
+            1 => 1,
+            2 => 2_000_000,
+            3 => 2_000_001,
+            4 => self.random.number(),
+            _ => 1 + self.random.below(2_000_000) as u64,
+        }
     }
 
     fn clear(&mut self) -> Request {

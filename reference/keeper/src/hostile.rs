@@ -56,9 +56,13 @@ pub enum Trick {
     ZeroSecret,
     OpenAgain,
     OpenAgainWithZero,
-    // Numbers and records: refusals 4, 5, 6, 11.
+    // Numbers and records: refusals 4, 5, 16, 6, 11.
     ZeroNumber(u8, usize),
+    SillyItemZero,
     MalformedRecord(u8),
+    SillyMalformed,
+    SillyMass(usize),
+    SillySet(usize),
     PlaceOutsideGap,
     InsertOutsideGap,
     AskOutsideGap,
@@ -122,6 +126,8 @@ impl Trick {
             ZeroSecret,
             OpenAgain,
             OpenAgainWithZero,
+            SillyItemZero,
+            SillyMalformed,
             PlaceOutsideGap,
             InsertOutsideGap,
             AskOutsideGap,
@@ -149,6 +155,7 @@ impl Trick {
         ];
         all.extend(KINDS.flat_map(|kind| [OneByteShort(kind), OneByteLong(kind), KindAlone(kind)]));
         all.extend(KINDS.filter(|kind| *kind != 0x10).map(BeforeOpening));
+        all.extend((0..SILLY_KG.len()).flat_map(|which| [SillyMass(which), SillySet(which)]));
         for kind in KINDS {
             all.extend((0..numbers_in(kind)).map(|which| ZeroNumber(kind, which)));
             let memoranda = memoranda_in(kind);
@@ -186,8 +193,9 @@ impl Trick {
             BeforeOpening(_) => Some(13),
             ZeroSecret => Some(12),
             OpenAgain | OpenAgainWithZero => Some(14),
-            ZeroNumber(..) => Some(4),
-            MalformedRecord(_) => Some(5),
+            ZeroNumber(..) | SillyItemZero => Some(4),
+            MalformedRecord(_) | SillyMalformed => Some(5),
+            SillyMass(_) | SillySet(_) => Some(16),
             PlaceOutsideGap | InsertOutsideGap | AskOutsideGap => Some(6),
             ClearOfEmpty | ClearOfListedEmpty => Some(11),
             FlippedMemorandum(_, which)
@@ -216,7 +224,7 @@ impl Trick {
             | ExchangedFields(kind) => Some(kind),
             PairOtherWayRound => Some(0x04),
             PlaceOutsideGap => Some(0x08),
-            OldCounterSet => Some(0x0c),
+            OldCounterSet | SillyItemZero | SillyMalformed | SillyMass(_) => Some(0x0c),
             ClearOfEmpty => Some(0x0d),
             AskOutsideGap => Some(0x0e),
             StaleAdopt => Some(0x0b),
@@ -226,6 +234,14 @@ impl Trick {
         }
     }
 }
+
+/// Masses in kilograms that no set may give (§3.4.4): the edges, 61,400 kg typed in grams, and
+/// some that are small again in their last bytes.
+pub const SILLY_KG: [u64; 7] =
+    [0, 2_000_001, 61_400_000, (1 << 32) + 500, 1 << 63, (1 << 56) + 61_400, u64::MAX];
+
+/// Where the mass that a set gives stands.
+const SET_MASS: Range<usize> = 49..57;
 
 /// How many item numbers a kind carries: q, A, A' and B', at the frame's start.
 fn numbers_in(kind: u8) -> usize {
@@ -575,6 +591,21 @@ fn false_request(trick: Trick, scene: &Scene, random: &mut Random) -> Option<Vec
             let mut frame = base(trick, scene, random)?;
             frame[record..record + 8].fill(0);
             frame[record + 15] |= 1;
+            Some(frame)
+        }
+        SillyItemZero | SillyMalformed => {
+            let damage = if trick == SillyItemZero {
+                ZeroNumber(0x0c, random.below(2))
+            } else {
+                MalformedRecord(0x0c)
+            };
+            let mut frame = false_request(damage, scene, random)?;
+            frame[SET_MASS].fill(0);
+            Some(frame)
+        }
+        SillyMass(which) => {
+            let mut frame = base(trick, scene, random)?;
+            frame[SET_MASS].copy_from_slice(&SILLY_KG[which].to_be_bytes());
             Some(frame)
         }
         PlaceOutsideGap => {

@@ -7,6 +7,7 @@
 
 use crate::tree::{leaf_digest, Level, Place, Spot, Tree};
 use reference::frames::{unhex, Request, MOST_SIBLINGS};
+use reference::module::SENSIBLE_KG;
 use reference::strings::{Digest, Formed, One, Record, Two, ZERO};
 use std::rc::Rc;
 
@@ -82,7 +83,7 @@ impl Keeper {
         self.adopt(module, exchange, after)
     }
 
-    /// Gives a listed item a record: mass, offset and rigging code.
+    /// Gives a listed item a record: mass, which may not be silly, offset and rigging code.
     pub fn set(
         &mut self,
         module: &mut dyn Module,
@@ -90,6 +91,9 @@ impl Keeper {
         values: [u64; 3],
     ) -> Result<(), Fault> {
         let [mass_kg, offset_mm, rigging] = values;
+        if !SENSIBLE_KG.contains(&mass_kg) {
+            return Err(Fault::NotLegal);
+        }
         let revision = self.counter.checked_add(1).ok_or(Fault::NotLegal)?;
         let new = Record { revision, mass_kg, offset_mm, rigging };
         let (lifted, after) = record_change(module, &self.tree, item, new)?;

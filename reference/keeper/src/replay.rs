@@ -5,6 +5,7 @@
 //! The protocol's paper, 7.1 and 7.2.
 
 use reference::frames::{parse, unhex, Request};
+use reference::module::SENSIBLE_KG;
 use reference::strings::{in_gap, Digest, Record};
 use std::collections::{BTreeMap, HashMap};
 
@@ -99,6 +100,7 @@ impl Replay {
             }
             Request::Set { item, old, values, .. } => {
                 let [mass_kg, offset_mm, rigging] = *values;
+                true_or(SENSIBLE_KG.contains(&mass_kg), "a silly mass was set")?;
                 let revision = self.counter + 1;
                 let new = Record { revision, mass_kg, offset_mm, rigging };
                 self.change_record(*item, *old, new, fields)

@@ -5,7 +5,7 @@
 //! answered by the second module as it is made, for an honest line is built from the
 //! replies before it.
 
-use crate::hostile::{digits, line, Scene, Seen, Trick};
+use crate::hostile::{digits, line, Scene, Seen, Trick, SILLY_KG};
 use crate::keeper::{
     chain, insertion, record_change, removal, swapping, turn, two_at_one_place, Exchange, Fault,
     Keeper, Lifted, Module,
@@ -13,7 +13,7 @@ use crate::keeper::{
 use crate::random::Random;
 use crate::tree::{leaf_digest, Spot, Tree};
 use reference::frames::{unhex, Request};
-use reference::module::{answer, Answer, Registers, REPLY_SPACE};
+use reference::module::{answer, Answer, Registers, REPLY_SPACE, SENSIBLE_KG};
 use reference::strings::{in_gap, Digest, Formed, One, Record, ZERO};
 use std::collections::VecDeque;
 use std::rc::Rc;
@@ -162,7 +162,7 @@ impl<'a> Wire<'a> {
     /// Plays any trick. The aim is picked first, so that no refusal is rare because
     /// few tricks lead to it.
     fn play_any(&mut self) {
-        let aims = [1, 2, 3, 4, 5, 6, 8, 9, 10, 11, 14].map(Some);
+        let aims = [1, 2, 3, 4, 5, 6, 8, 9, 10, 11, 14, 16].map(Some);
         let aim = if self.random.percent(8) { None } else { self.random.pick(&aims).flatten() };
         let aimed = |trick: &&Trick| trick.aim() == aim;
         let fitting: Vec<Trick> = self.tricks.iter().filter(aimed).copied().collect();
@@ -297,7 +297,7 @@ impl Session<'_> {
     }
 
     fn hostile_act(&mut self) -> Result<(), Fault> {
-        match self.wire.random.below(11) {
+        match self.wire.random.below(12) {
             0 => self.repeat_lines(),
             1 => self.mutate_line(),
             2 => self.halves_apart(),
@@ -306,6 +306,7 @@ impl Session<'_> {
             5 => self.made_up_tree(),
             6 => self.insert_outside_gap(),
             7 => self.clear_of_listed_empty(),
+            8 => self.silly_set(),
             _ => {
                 for _ in 0..4 {
                     self.wire.play_any();
@@ -350,9 +351,15 @@ impl Session<'_> {
         Spot { beside, new_on_left }
     }
 
+    /// What a set may give: a mass that is not silly, often at an edge.
     fn values(&mut self) -> [u64; 3] {
         let random = &mut self.wire.random;
-        let mass_kg = if random.percent(10) { 0 } else { random.below(100_000) as u64 };
+        let mass_kg = match random.below(20) {
+            0 => *SENSIBLE_KG.start(),
+            1 => *SENSIBLE_KG.end(),
+            2 => 1 + random.below(2_000_000) as u64,
+            _ => 1 + random.below(100_000) as u64,
+        };
         [mass_kg, random.below(500) as u64, random.number() >> random.below(64)]
     }
 
@@ -638,8 +645,30 @@ impl Session<'_> {
         Ok(())
     }
 
+    /// A set of a silly mass with its memorandum in good order. Only the mass stands in its way.
+    fn silly_set(&mut self) -> Result<(), Fault> {
+        let tree = self.keeper.tree.clone();
+        if !tree.is_empty() {
+            let which = self.wire.random.below(SILLY_KG.len());
+            let [_, offset_mm, rigging] = self.values();
+            let values = [SILLY_KG[which], offset_mm, rigging];
+            self.set_to(values, &tree, 1, Trick::SillySet(which))?;
+        }
+        Ok(())
+    }
+
     fn set_on(&mut self, tree: &Tree, ahead: u64, trick: Trick) -> Result<(), Fault> {
         let values = self.values();
+        self.set_to(values, tree, ahead, trick)
+    }
+
+    fn set_to(
+        &mut self,
+        values: [u64; 3],
+        tree: &Tree,
+        ahead: u64,
+        trick: Trick,
+    ) -> Result<(), Fault> {
         let [mass_kg, offset_mm, rigging] = values;
         let revision = self.wire.registers.counter + ahead;
         let record = Record { revision, mass_kg, offset_mm, rigging };

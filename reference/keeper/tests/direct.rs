@@ -8,6 +8,7 @@ mod common;
 use common::{assert_decided_by_seed, hex};
 use keeper::direct::{generate, probe as probe_of};
 use reference::direct::{Call, MOST_LINE};
+use reference::frames::{parse, unhex, Request};
 use reference::module::Registers;
 use reference::probes::answer;
 use reference::strings::ZERO;
@@ -54,7 +55,7 @@ fn every_refusal_occurs_often() {
     for (_, refusal, _) in calls(1) {
         *counts.entry(refusal).or_insert(0) += 1;
     }
-    assert_eq!(counts.keys().copied().collect::<Vec<u8>>(), (0..=15).collect::<Vec<u8>>());
+    assert_eq!(counts.keys().copied().collect::<Vec<u8>>(), (0..=16).collect::<Vec<u8>>());
     assert!(counts.values().all(|count| *count >= 30), "{:?}", counts);
 }
 
@@ -109,6 +110,27 @@ fn the_top_is_met_in_every_way() {
         .map(|(call, ..)| kind(call))
         .collect();
     assert!([0x0b, 0x0e, 0x0f].iter().all(|kind| kinds.contains(kind)));
+}
+
+/// A set, open and with item numbers above 0 and a sound old record, gets 16 by its mass alone,
+/// at the counter's top too; both edges are accepted.
+#[test]
+fn masses_of_sets_are_met_at_every_edge() {
+    let mut met = BTreeSet::new();
+    for (call, refusal, _) in calls(7) {
+        let frame = unhex(&call.line).ok().and_then(|frame| parse(&frame).ok());
+        if let Some(Request::Set { values: [mass, ..], .. }) = frame {
+            assert!(refusal != 16 || mass == 0 || mass > 2_000_000);
+            assert!(refusal != 0 || (1..=2_000_000).contains(&mass));
+            met.insert((mass, refusal, call.registers.counter == TOP));
+        }
+    }
+    for mass in [0, 2_000_001] {
+        assert!(met.contains(&(mass, 16, false)) && met.contains(&(mass, 16, true)));
+    }
+    for mass in [1, 2_000_000] {
+        assert!(met.contains(&(mass, 0, false)) && met.contains(&(mass, 7, true)));
+    }
 }
 
 #[test]

@@ -160,7 +160,7 @@ fn a_thousand_items() {
     for item in &items {
         bench.ask(*item);
         if random.percent(30) {
-            bench.set(*item, [random.number(), 2, 3]);
+            bench.set(*item, [1 + random.below(2_000_000) as u64, 2, 3]);
             bench.ask(*item);
         }
     }
@@ -315,6 +315,7 @@ fn what_is_not_legal_sends_no_line() {
         }
     }
     let mut bench = skewed(2);
+    bench.set(10, [2_000_000, 2, 3]);
     bench.set(10, [1, 2, 3]);
     let keeper = &mut bench.keeper;
     let spot = keeper.tree.spot_at_holder(10, false);
@@ -325,6 +326,9 @@ fn what_is_not_legal_sends_no_line() {
     assert_eq!(keeper.remove(&mut NoModule, 11), not_legal);
     assert_eq!(keeper.clear(&mut NoModule, 20), not_legal);
     assert_eq!(keeper.set(&mut NoModule, 11, [1, 2, 3]), not_legal);
+    for silly in [0, 2_000_001, 61_400_000, u64::MAX] {
+        assert_eq!(keeper.set(&mut NoModule, 10, [silly, 2, 3]), not_legal);
+    }
     assert_eq!(keeper.swap(&mut NoModule, 10, 11), not_legal);
     assert_eq!(keeper.ask(&mut NoModule, 0), Err(Fault::NotLegal));
 }

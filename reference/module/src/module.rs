@@ -32,6 +32,11 @@ pub const ZERO_SECRET: u8 = 12;
 pub const NOT_OPEN: u8 = 13;
 /// Refusal: already open, kind 10.
 pub const ALREADY_OPEN: u8 = 14;
+/// Refusal: a set gives a silly mass (§6.2.16).
+pub const SILLY_MASS: u8 = 16;
+
+/// The masses in kilograms that a set may give; any other is silly (§3.4.4).
+pub const SENSIBLE_KG: std::ops::RangeInclusive<u64> = 1..=2_000_000;
 
 /// The register set. The secret is zero bytes until the module is opened.
 #[derive(Clone, Debug, Default, PartialEq, Eq)]
@@ -103,6 +108,7 @@ fn work(registers: &Registers, line: &[u8], formed: &mut Formed) -> Outcome {
     check_open(registers, &request)?;
     check_numbers(&request)?;
     check_record(&request)?;
+    check_mass(&request)?;
     check_gap(&request)?;
     check_clear(&request)?;
     check_counter(registers, &request)?;
@@ -152,6 +158,13 @@ pub fn check_record(request: &Request) -> Result<(), u8> {
         _ => false,
     };
     refuse_if(malformed, MALFORMED)
+}
+
+/// Refusal 16: of the mass a set gives, and of no other (§5.2.16).
+pub fn check_mass(request: &Request) -> Result<(), u8> {
+    let silly =
+        matches!(request, Request::Set { values: [kg, ..], .. } if !SENSIBLE_KG.contains(kg));
+    refuse_if(silly, SILLY_MASS)
 }
 
 /// Refusal 6.

@@ -320,12 +320,65 @@ fn set_costs_7_and_of_an_empty_item_6() {
     refused(&module, &frame, 8, 7);
     refused(&open_module(top, 41), &frame, 10, 7);
 
-    let ten_new = leaf(10, 5, &record_hash([43, 0, 0, 0]));
+    let ten_new = leaf(10, 5, &record_hash([43, 1, 0, 0]));
     let higher = node(&five_new, &ten_new);
     let m = u1(&p.ten, &top, &ten_new, &higher);
-    let frame = set_frame(10, 5, NO_RECORD, [0, 0, 0], [&top, &higher, &m]);
+    let frame = set_frame(10, 5, NO_RECORD, [1, 0, 0], [&top, &higher, &m]);
     accepted(&mut module, &frame, &bytes(0x8c, &[&higher, &be(43)]), 6);
     assert_eq!(module, open_module(higher, 43));
+}
+
+/// A set of 5's record from `old` to this mass, right in all else; the root it leads to.
+fn weighing(old: Numbers, mass: u64, counter: u64) -> (Registers, Vec<u8>, Digest) {
+    let ten = leaf(10, 5, &ZERO);
+    let five = leaf(5, 10, &record_hash(old));
+    let five_new = leaf(5, 10, &record_hash([counter + 1, mass, 20, 3]));
+    let (root, top) = (node(&five, &ten), node(&five_new, &ten));
+    let m = u1(&five, &root, &five_new, &top);
+    let frame = set_frame(5, 10, old, [mass, 20, 3], [&root, &top, &m]);
+    (open_module(root, counter), frame, top)
+}
+
+/// §9.1.10: 61,400 kg typed in grams among them.
+#[test]
+fn a_set_to_a_silly_mass_gets_16() {
+    for mass in [1, 2, 61_400, 1_999_999, 2_000_000] {
+        let (mut module, frame, top) = weighing([1, 500, 20, 3], mass, 41);
+        accepted(&mut module, &frame, &bytes(0x8c, &[&top, &be(42)]), 7);
+        assert_eq!(module, open_module(top, 42));
+    }
+    for mass in [0, 2_000_001, 61_400_000, 1 << 32, u64::MAX] {
+        let (module, frame, _) = weighing([1, 500, 20, 3], mass, 41);
+        refused(&module, &frame, 16, 0);
+        let (module, frame, _) = weighing(NO_RECORD, mass, 41);
+        refused(&module, &frame, 16, 0);
+    }
+}
+
+/// §9.1.12: of every other mass nothing is asked; nor of a set's offset and rigging.
+#[test]
+fn no_other_mass_is_looked_at() {
+    for mass in [0, 2_000_001, 3_000_000, u64::MAX] {
+        let record = [7, mass, 20, 3];
+        let (mut module, frame, top) = weighing(record, 500, 41);
+        accepted(&mut module, &frame, &bytes(0x8c, &[&top, &be(42)]), 7);
+
+        let ten = leaf(10, 5, &ZERO);
+        let (five, cleared) = (leaf(5, 10, &record_hash(record)), leaf(5, 10, &ZERO));
+        let (root, below) = (node(&five, &ten), node(&cleared, &ten));
+        let m = u1(&five, &root, &cleared, &below);
+        let clear = clear_frame(5, 10, record, [&root, &below, &m]);
+        accepted(&mut open_module(root, 41), &clear, &bytes(0x8d, &[&below, &be(42)]), 6);
+        let ask = ask_frame(5, 5, 10, record, &root, &v1(&five, &root));
+        let finding = bytes(0x8e, &[&[1], &be(5), &numbers(&record)]);
+        accepted(&mut open_module(root, 41), &ask, &finding, 4);
+
+        let five_new = leaf(5, 10, &record_hash([42, 500, mass, mass]));
+        let top = node(&five_new, &ten);
+        let m = u1(&five, &root, &five_new, &top);
+        let far = set_frame(5, 10, record, [500, mass, mass], [&root, &top, &m]);
+        accepted(&mut open_module(root, 41), &far, &bytes(0x8c, &[&top, &be(42)]), 7);
+    }
 }
 
 #[test]
@@ -429,27 +482,33 @@ fn the_first_condition_to_apply_is_given() {
     refused(&unopened, &bytes(7, &[&be(0)]), 13, 0);
     refused(&opened, &bytes(0x10, &[&ZERO]), 14, 0);
     refused(&unopened, &bytes(0x10, &[&ZERO]), 12, 0);
-    // 4 before 5, 6, 11, 7, 8, 10.
+    // 4 before 5, 16, 6, 11, 7, 8, 10.
     refused(&at_top, &set_frame(0, 5, bad, [0; 3], rest), 4, 0);
+    refused(&opened, &set_frame(0, 5, p.record, [0; 3], rest), 4, 0);
     refused(&at_top, &clear_frame(5, 0, bad, rest), 4, 0);
     refused(&at_top, &clear_frame(5, 0, NO_RECORD, rest), 4, 0);
     refused(&opened, &ask_frame(0, 5, 10, bad, &d, &d), 4, 0);
     refused(&opened, &ask_frame(7, 0, 5, NO_RECORD, &d, &d), 4, 0);
     refused(&opened, &place_frame([5, 0, 10], &d, rest), 4, 0);
     refused(&opened, &bytes(0x0f, &[&be(0)]), 4, 0);
-    // 5 before 6, 11, 7.
+    // 5 before 16, 6, 11, 7.
     refused(&opened, &ask_frame(20, 5, 10, bad, &d, &d), 5, 0);
     refused(&at_top, &clear_frame(5, 10, bad, rest), 5, 0);
     refused(&at_top, &set_frame(5, 10, bad, [0; 3], rest), 5, 0);
+    refused(&opened, &set_frame(5, 10, bad, [2_000_001, 0, 0], rest), 5, 0);
+    // 16 before 7, 8 and 10.
+    refused(&at_top, &set_frame(5, 10, p.record, [0; 3], rest), 16, 0);
+    refused(&at_top, &set_frame(5, 10, p.record, [2_000_001, 0, 0], rest), 16, 0);
+    refused(&opened, &set_frame(5, 10, p.record, [0; 3], rest), 16, 0);
     // 6 before 8; 11 before 7; 7 before 8 and 10.
     refused(&opened, &ask_frame(20, 5, 10, p.record, &d, &d), 6, 0);
     refused(&opened, &place_frame([5, 20, 10], &d, rest), 6, 0);
     refused(&at_top, &clear_frame(5, 10, NO_RECORD, rest), 11, 0);
     refused(&at_top, &clear_frame(5, 10, p.record, rest), 7, 0);
-    refused(&at_top, &set_frame(5, 10, p.record, [0; 3], rest), 7, 0);
+    refused(&at_top, &set_frame(5, 10, p.record, [1, 0, 0], rest), 7, 0);
     // 8 before 10.
     refused(&opened, &bytes(0x0b, &[&d, &d, &d]), 8, 2);
-    refused(&opened, &set_frame(5, 10, p.record, [0; 3], rest), 8, 7);
+    refused(&opened, &set_frame(5, 10, p.record, [1, 0, 0], rest), 8, 7);
     refused(&opened, &ask_frame(5, 5, 10, p.record, &d, &d), 8, 4);
 }
 
@@ -478,7 +537,7 @@ fn an_all_zero_memorandum_is_not_none_given() {
     let module = open_module(d, 0);
     refused(&module, &bytes(0x0b, &[&d, &d, &ZERO]), 8, 2);
     refused(&module, &bytes(0x09, &[&d, &d, &ZERO]), 8, 2);
-    refused(&module, &set_frame(5, 5, NO_RECORD, [0; 3], [&d, &d, &ZERO]), 8, 6);
+    refused(&module, &set_frame(5, 5, NO_RECORD, [1, 0, 0], [&d, &d, &ZERO]), 8, 6);
     let [x, y, z] = [1, 2, 3].map(some);
     let m1 = u1(&x, &y, &x, &y);
     refused(&module, &bytes(3, &[&x, &y, &x, &y, &m1, &z, &z, &ZERO]), 9, 6);
