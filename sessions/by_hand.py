@@ -12,6 +12,7 @@ import sys
 
 ZERO = bytes(32)  # the digest 0
 EMPTY = (0, 0, 0, 0)  # the record of an item that has none: revision, kg, mm, rigging code
+SENSIBLE = range(1, 2_000_001)  # the masses in kg that a set may give: any other is silly
 
 
 def number(value):
@@ -63,7 +64,7 @@ class Session:
         self.rows.append((request, reply, self.step, comment))  # in the order sent
 
     def send(self, comment, kind, fields, answer=(), needs=(), refused=0):
-        """One request and its reply. `needs` are pairs of a memorandum carried and the one it has to be."""
+        """One request and its reply. `needs` are pairs of what it carries, a memorandum or other, and what that has to be."""
         if not refused and any(carried != due for carried, due in needs):
             sys.exit(f"by_hand: line {len(self.rows) + 1} is not honest: {comment}")
         request = bytes([kind]) + b"".join(fields)  # the kind, then the fields
@@ -129,13 +130,13 @@ class Session:
     def adopt(self, comment, y, y_, m):
         self.send(comment, 0x0B, [y, y_, m], [y_], [(m, self.EI(y, y_))])
 
-    def set(self, comment, item, following, old, load, y, y_, m):
+    def set(self, comment, item, following, old, load, y, y_, m, refused=0):
         """Gives back the new record, [c+1, v2, v3, v4]."""
-        self.counter += 1  # both set and clear raise it
-        new = (self.counter, *load)
-        needs = [(m, self.U1(leaf(item, following, old), y, leaf(item, following, new), y_))]
+        new = (self.counter + 1, *load)
+        self.counter += not refused  # both set and clear raise it; a refusal changes nothing
+        needs = [(load[0] in SENSIBLE, True), (m, self.U1(leaf(item, following, old), y, leaf(item, following, new), y_))]
         fields = [*map(number, (item, following, *old, *load)), y, y_, m]
-        self.send(comment, 0x0C, fields, [y_, number(self.counter)], needs)
+        self.send(comment, 0x0C, fields, [y_, number(self.counter)], needs, refused)
         return new
 
     def clear(self, comment, item, following, old, y, y_, m, refused=0):
