@@ -43,7 +43,7 @@ fn refusal(asked: &Result<Request, Bad>, fields: &[u8]) -> Result<String, String
         Ok(request) => (Some(request), may_get(request, number)),
         Err(bad) => (None, number == bad.refusal),
     };
-    match what_to_do(number) {
+    match what_to_do(number, request) {
         // A module hands 15 to its caller and writes nothing.
         None if number == NO_SPACE => {
             let meaning = "too little room for a reply: lend 195 bytes or more";
@@ -118,13 +118,17 @@ pub fn wrong_with(number: u8, request: Option<&Request>) -> String {
 }
 
 /// What to do about a refusal; none for a number that no reply line has.
-fn what_to_do(number: u8) -> Option<&'static str> {
+fn what_to_do(number: u8, request: Option<&Request>) -> Option<&'static str> {
     let advice = match number {
         BAD_LINE => "send an even number of digits 0-9 and a-f, at most 4,244",
         UNKNOWN_KIND => "use one of the kinds 01 to 10",
         BAD_LENGTH => "send it again, whole",
         ZERO_NUMBER => "use item numbers above 0",
         MALFORMED => "fetch the present record and ask again",
+        // Who types 0 may mean that the weight is withdrawn.
+        SILLY_MASS if matches!(request, Some(Request::Set { values: [0, ..], .. })) => {
+            "give the mass in kilograms, or clear the record"
+        }
         SILLY_MASS => "give the mass in kilograms, and not in grams",
         NOT_IN_GAP => "send its true neighbours in the list, or the item itself when asking",
         COUNTER_AT_TOP => "no record can be changed any more, so replace the module",

@@ -409,7 +409,7 @@ fn every_refusal_says_what_was_wrong_and_what_to_do() {
         (
             set(432, 562, ROTOR, [0, 1_120, 7]),
             16,
-            "Refused (16): 0 kg is no load's mass; give the mass in kilograms, and not in grams.",
+            "Refused (16): 0 kg is no load's mass; give the mass in kilograms, or clear the record.",
         ),
         (
             place([5, 20, 10], &ZERO),
