@@ -8,7 +8,7 @@ use native.Mathlib.Decide.{decLe}
 use borrow.Author.Tests.{eq-eqb, ne-eqb, lt-ltb, le-ltb}
 use lib.Dec.{eqb}
 use lib.ListN.{length, replicate}
-use Rattle.seqs.specs.Choose.{pick, opposite, either-no, _and_}
+use Rattle.seqs.specs.Choose.{pick, opposite, either-no, _and_, Every}
 use Rattle.seqs.specs.Bytes.{be64, allZero, same-refl}
 use Rattle.hex.specs.Hex.{isDigit, valueOf, digitOf, lineOf, bytesOf}
 use Rattle.hex.proofs.Laws.{bytes-length}
@@ -25,9 +25,9 @@ use Rattle.paper.proofs.Ceilings.{cost-append}
 use Rattle.paper.proofs.Early.{late, none-early, read-is}
 use Rattle.paper.proofs.Room.{room}
 use Rattle.paper.proofs.Verdicts.{firstOf, number-is}
-use Rattle.paper.specs.ByHand.{ByHand, NoneZero, NoZeroDigest, PathOf64, ones, PathReaches259, EdgesOf65, EveryRow, table, ReadsAs, setRow, clearRow, askRow, MassRowSays, EveryMassRow, masses, Runs, wholeRun}
+use Rattle.paper.specs.ByHand.{ByHand, NoneZero, NoZeroDigest, PathOf64, ones, PathReaches259, EdgesOf65, RowSays, table, ReadsAs, setRow, clearRow, askRow, MassRowSays, masses, Runs, wholeRun}
 
-rows : (D : List ℕ → Dig) (u : Dig) → EveryRow D (table u)
+rows : (D : List ℕ → Dig) (u : Dig) → Every (RowSays D) (table u)
 unfolding inGap H recordHash malformed
 rows D u =
     refl and refl and refl and refl and refl and refl and refl and refl and refl and refl and refl and refl and refl
@@ -182,7 +182,7 @@ module _ (D : List ℕ → Dig) where
   unfolding known kinds
   ask-row r n h s A A′ line o z z′ l = judged D s line 0x0e _ refl l ∙ ask-first D s o A A′ r z z′ ∙ h
 
-  masses-judged : EveryMassRow D masses
+  masses-judged : Every (MassRowSays D) masses
   unfolding sillyMass malformed
   masses-judged =
       set-row _ _ _ _ _ refl

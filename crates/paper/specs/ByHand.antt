@@ -6,7 +6,7 @@ use mathlib.Core.List.{List, [], _∷_, _++_}
 use Prim.Native.Nat.{ℕ, _+_, _*_, _≤_}
 use lib.Dec.{eqb}
 use lib.ListN.{length, getD, replicate}
-use Rattle.seqs.specs.Choose.{opposite}
+use Rattle.seqs.specs.Choose.{opposite, Every}
 use Rattle.sha256.specs.Padding.{blocks}
 use Rattle.seqs.specs.Bytes.{allZero}
 use Rattle.hex.specs.Hex.{allDigits, bytesOf, digitsOf}
@@ -107,18 +107,12 @@ table u =
     ∷ orderRow 9 10
     ∷ []
 
-abbrev pub EveryRow : (D : List ℕ → Dig) → List Row → Type 0
-EveryRow D [] = Unit {0}
-EveryRow D (r ∷ l) = RowSays D r × EveryRow D l
-
 -- §9.1.7: a path of 64 costs 259 where no digest carried and none formed on the way up is zero, whatever the sides
 abbrev pub NoneZero : List Dig → Type 0
-NoneZero [] = Unit {0}
-NoneZero (d ∷ l) = (allZero d ≡ false) × NoneZero l
+NoneZero = Every (λ d. allZero d ≡ false)
 
 abbrev pub NoZeroDigest : (D : List ℕ → Dig) → List Str → Type 0
-NoZeroDigest D [] = Unit {0}
-NoZeroDigest D (s ∷ l) = (allZero (digestOf D s) ≡ false) × NoZeroDigest D l
+NoZeroDigest D = Every (λ s. allZero (digestOf D s) ≡ false)
 
 abbrev pub PathOf64 : (D : List ℕ → Dig) → Type 0
 PathOf64 D = (s : Registers) (x x′ : Dig) (sides : ℕ) (l : List Dig) → NoneZero (x ∷ x′ ∷ l) → length l ≡ 64
@@ -204,10 +198,6 @@ masses =
     ∷ askRow (four 3 3000000 0 0) 0
     ∷ []
 
-abbrev pub EveryMassRow : (D : List ℕ → Dig) → List MassRow → Type 0
-EveryMassRow D [] = Unit {0}
-EveryMassRow D (r ∷ l) = MassRowSays D r × EveryMassRow D l
-
 -- §9.2.1, the whole run: S is 01 thirty-two times, Z 64 digits 0
 
 -- a line in and the line out for it, without its 0A
@@ -244,12 +234,12 @@ Runs D s (gets line reply ∷ l) =
     (replyLine (answerTo D s line replyRoom) ≡ reply ++ (0x0a ∷ [])) × Runs D (answerTo D s line replyRoom .after) l
 
 pub record ByHand : Type 1 where
-  pub rows : (D : List ℕ → Dig) (u : Dig) → EveryRow D (table u)
+  pub rows : (D : List ℕ → Dig) (u : Dig) → Every (RowSays D) (table u)
   -- §3.5.4: where A is its own next, every number above 0 but A
   pub gap-of-one : (q A : ℕ) → eqb q 0 ≡ false → inGap q A A ≡ opposite (eqb q A)
   pub path : (D : List ℕ → Dig) → PathOf64 D
   pub path-reaches : PathReaches259
   pub room : (D : List ℕ → Dig) → ((l : List ℕ) → length (D l) ≡ 32) → (s : Registers) (line : List ℕ) → SpaceOf195 D s line
   pub edges : (D : List ℕ → Dig) (s : Registers) (l : List ℕ) → EdgesOf65 D s l
-  pub masses-judged : (D : List ℕ → Dig) → EveryMassRow D masses
+  pub masses-judged : (D : List ℕ → Dig) → Every (MassRowSays D) masses
   pub run : (D : List ℕ → Dig) → Runs D (unopened nought) wholeRun

@@ -7,7 +7,7 @@ use Prim.Native.Nat.{ℕ}
 use native.Mathlib.Omega.{arith}
 use lib.Dec.{eqb}
 use lib.ListN.{length}
-use Rattle.seqs.specs.Choose.{pick, either, _and_}
+use Rattle.seqs.specs.Choose.{pick, either, _and_, Every}
 use Rattle.seqs.specs.Bytes.{Bytes, be64, same-refl}
 use Rattle.hex.specs.Hex.{digitsOf}
 use Rattle.paper.specs.declared.Record.{Record}
@@ -24,7 +24,7 @@ use Rattle.rings.specs.Lists.{ListItem, itemWith, OnList, Unlisted}
 use Rattle.runs.specs.Run.{World}
 use Rattle.runs.specs.Safety.{Neighbours}
 use Rattle.runs.specs.Frames.{recordBytes, valuesBytes}
-use Rattle.runs.specs.ByHand.{valuesOf, rotor, small, wishes, findings, EveryListRow, questions, EveryReply, settings, EverySet, ListByHand}
+use Rattle.runs.specs.ByHand.{valuesOf, rotor, small, wishes, findings, ListRowSays, questions, RepliedSo, settings, SetSo, ListByHand}
 use Rattle.runs.specs.Sizes.{InEightBytes, ValuesFit, RecordFits}
 use Rattle.runs.proofs.Parts.{IsDigest}
 use Rattle.runs.proofs.Accepted.{NoneFails}
@@ -95,7 +95,7 @@ module _ (D : List ℕ → Dig) where
 
   -- ── the rows ──
 
-  legal : EveryListRow D wishes
+  legal : Every (ListRowSays D) wishes
   legal =
       -- insert
       omega arith
@@ -138,7 +138,7 @@ module _ (D : List ℕ → Dig) where
       and (λ h. omega (arith, h .1))
       and tt
 
-  true-findings : EveryListRow D findings
+  true-findings : Every (ListRowSays D) findings
   unfolding inGap
   true-findings =
       -- a record
@@ -201,7 +201,7 @@ module _ (D : List ℕ → Dig) (D32 : (l : List ℕ) → length (D l) ≡ 32) (
       ap (λ (x : List ℕ). answerTo D s (digitsOf (frame q A A′ r (s .root ++ x))) replyRoom .says) (sym (append-nil m))
       ∙ ap (λ (x : Told). x .says) (told-is D w a sendable passes)
 
-  replies : EveryReply D questions
+  replies : Every (RepliedSo D) questions
   unfolding be64 findingOf malformed inGap
   replies =
       (λ s o n b. reply 9 9 5 rotor s o n b (omega arith) (omega arith) (omega arith) small-rotor refl refl refl refl refl)
@@ -240,7 +240,7 @@ module _ (D : List ℕ → Dig) (D32 : (l : List ℕ) → length (D l) ≡ 32) (
       ∙ ap (λ (x : Told). x .says) (told-as D w q sendable)
       ∙ set-said v silly s y′ o c mass
 
-  sets : EverySet D settings
+  sets : Every (SetSo D) settings
   unfolding be64 sillyMass
   sets =
       (λ s y′ o c n b n′ b′. setting (valuesOf 61400 1250 3) false s y′ o c n b n′ b′ (omega arith) refl)

@@ -6,6 +6,7 @@ use mathlib.Core.Bool.{true}
 use mathlib.Core.List.{List, [], _∷_, _++_}
 use Prim.Native.Nat.{ℕ, _-_, _^_}
 use lib.ListN.{length}
+use Rattle.seqs.specs.Choose.{Every}
 use Rattle.seqs.specs.Bytes.{Bytes}
 use Rattle.hex.specs.Hex.{digitsOf}
 use Rattle.paper.specs.declared.Record.{Record}
@@ -133,10 +134,6 @@ findings =
     ∷ denies 9 (foundGap 5 12)
     ∷ []
 
-abbrev pub EveryListRow : (D : List ℕ → Dig) → List ListRow → Type 0
-EveryListRow D [] = Unit {0}
-EveryListRow D (r ∷ l) = ListRowSays D r × EveryListRow D l
-
 -- ── replies as bytes ──
 
 -- A question put to an open module as a line: its frame written out up to its root y, which is the module's, and its memorandum,
@@ -190,10 +187,6 @@ RepliedSo D x = (s : Registers) → s .opened ≡ true → length (s .root) ≡ 
     → (let m = memorandum D (v1 (digestOf D (leafOf D (x .A) (x .A′) (x .r))) (s .root)) (s .secret) in
     answerTo D s (digitsOf (x .frame ++ (s .root ++ m))) replyRoom .says ≡ x .says)
 
-abbrev pub EveryReply : (D : List ℕ → Dig) → List Question → Type 0
-EveryReply D [] = Unit {0}
-EveryReply D (x ∷ l) = RepliedSo D x × EveryReply D l
-
 -- A set of item 9, whose next is 5 and whose record is `rotor`, put to an open module whose counter is 3: its values, its frame
 -- written out up to its root y, which is the module's; y', any digest; its memorandum, which fits. And every byte of the reply.
 pub record Setting : Type 0 where
@@ -231,12 +224,8 @@ SetSo D x = (s : Registers) (y′ : Dig) → s .opened ≡ true → s .counter .
     → (let m = memorandum D (changeSays D 9 5 rotor (nextRecord s (x .values)) (s .root) y′) (s .secret) in
     answerTo D s (digitsOf (x .frame ++ (s .root ++ (y′ ++ m)))) replyRoom .says ≡ x .says y′)
 
-abbrev pub EverySet : (D : List ℕ → Dig) → List Setting → Type 0
-EverySet D [] = Unit {0}
-EverySet D (x ∷ l) = SetSo D x × EverySet D l
-
 pub record ListByHand : Type 0 where
-  pub legal : (D : List ℕ → Dig) → EveryListRow D wishes
-  pub true-findings : (D : List ℕ → Dig) → EveryListRow D findings
-  pub replies : (D : List ℕ → Dig) → ((l : List ℕ) → length (D l) ≡ 32) → ((l : List ℕ) → Bytes (D l)) → EveryReply D questions
-  pub sets : (D : List ℕ → Dig) → ((l : List ℕ) → length (D l) ≡ 32) → ((l : List ℕ) → Bytes (D l)) → EverySet D settings
+  pub legal : (D : List ℕ → Dig) → Every (ListRowSays D) wishes
+  pub true-findings : (D : List ℕ → Dig) → Every (ListRowSays D) findings
+  pub replies : (D : List ℕ → Dig) → ((l : List ℕ) → length (D l) ≡ 32) → ((l : List ℕ) → Bytes (D l)) → Every (RepliedSo D) questions
+  pub sets : (D : List ℕ → Dig) → ((l : List ℕ) → length (D l) ≡ 32) → ((l : List ℕ) → Bytes (D l)) → Every (SetSo D) settings

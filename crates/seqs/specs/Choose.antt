@@ -2,6 +2,7 @@
 -- an arm for each of some numbers in a row.
 use mathlib.Core.Bool.{Bool, true, false}
 use mathlib.Core.Path.{_≡_, refl}
+use mathlib.Core.List.{List, [], _∷_}
 use Prim.Native.Nat.{ℕ, zero, suc, _+_, _≤_}
 use native.Mathlib.Omega.{arith}
 
@@ -51,6 +52,11 @@ infixr 30 _and_
 -- one, and then the others: a proof of nested pairs without their brackets
 pub _and_ : {A B : Type 0} → A → B → A × B
 a and b = (a, b)
+
+-- something holds of every element of a list, as a table's statement of each of its rows
+abbrev pub Every : {A : Type 0} → (A → Type 0) → List A → Type 0
+Every P [] = Unit {0}
+Every P (x ∷ l) = P x × Every P l
 
 -- k is none of the n numbers from `first` on, as the last arm of such a `match` has it
 abbrev pub NoneOf : (first n k : ℕ) → Type 0
