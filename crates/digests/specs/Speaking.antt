@@ -1,8 +1,9 @@
 -- What a memorandum says as a value, its string without the secret; and the memorandum made of it.
 use mathlib.Core.Path.{_≡_}
-use mathlib.Core.List.{List, [], _∷_, _++_}
+use mathlib.Core.List.{List, _∷_, _++_}
 use Prim.Native.Nat.{ℕ, _+_, _*_}
 use lib.ListN.{length, take, drop, replicate}
+use Rattle.seqs.specs.Choose.{Every}
 use Rattle.sha256.specs.Hash.{sha256}
 use Rattle.sha256.specs.Padding.{blocks}
 use Rattle.paper.specs.Strings.{Dig, Memo, memoTag, memoDigests, digs, spread}
@@ -11,8 +12,7 @@ use Rattle.digests.specs.declared.Says.{Says}
 
 -- each of some digests has its 32 bytes
 abbrev pub AllWhole : List Dig → Type 0
-AllWhole [] = Unit {0}
-AllWhole (d ∷ l) = (length d ≡ 32) × AllWhole l
+AllWhole = Every (λ d. length d ≡ 32)
 
 -- a tag and digests stand over the front of the array, zeros behind them, and the length is theirs
 pub record SaidAs (s : Says) (tag : ℕ) (parts : List Dig) : Type 0 where

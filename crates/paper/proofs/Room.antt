@@ -9,7 +9,7 @@ use native.Mathlib.Omega.{arith}
 use borrow.Author.Tests.{lt-ltb, le-ltb}
 use lib.Dec.{eqb}
 use lib.ListN.{length, getD, take, drop, length-append, length-take}
-use Rattle.seqs.specs.Choose.{pick, _and_}
+use Rattle.seqs.specs.Choose.{pick, _and_, Every}
 use Rattle.seqs.specs.Bytes.{be64, allZero}
 use Rattle.hex.specs.Hex.{bytesOf, lineOf}
 use Rattle.hex.proofs.Laws.{line-length}
@@ -33,8 +33,7 @@ abbrev pub Short : Dig → Type 0
 Short d = length d ≤ 32
 
 abbrev AllShort : List Dig → Type 0
-AllShort [] = Unit {0}
-AllShort (d ∷ l) = Short d × AllShort l
+AllShort = Every Short
 
 take-short : (n : ℕ) (l : List ℕ) → length (take n l) ≤ n
 take-short n l = simp length-take (omega arith)
@@ -129,8 +128,7 @@ module _ (D : List ℕ → Dig) (D32 : (l : List ℕ) → length (D l) ≡ 32) w
       → length (answer D s (k .reads p) .lists) ≤ 96
 
   abbrev AllBrief : List KindRow → Type 0
-  AllBrief [] = Unit {0}
-  AllBrief (k ∷ ks) = Brief k × AllBrief ks
+  AllBrief = Every Brief
 
   brief-row : (ks : List KindRow) (d : KindRow) (i : ℕ) → AllBrief ks → Brief d → Brief (getD ks i d)
   brief-row [] d i h g = g

@@ -7,7 +7,7 @@ use Prim.Native.Nat.{ℕ}
 use borrow.Author.Tests.{eqb-true}
 use lib.Dec.{eqb}
 use lib.ListN.{length}
-use Rattle.seqs.specs.Choose.{pick, either, both-true, either-yes, _and_}
+use Rattle.seqs.specs.Choose.{pick, either, both-true, either-yes, _and_, Every}
 use Rattle.seqs.specs.Bytes.{same, same-true, same-refl}
 use Rattle.hex.specs.Hex.{bytesOf}
 use Rattle.paper.specs.declared.Record.{Record}
@@ -62,8 +62,7 @@ Comparing D c =
     → ((c .number ≡ 8) ⊎ (c .number ≡ 9)) × (c .fails ≡ false → (x : Str) × List·Memᴰ x (c .forms) × (digestOf D x ≡ m))
 
 abbrev AllComparing : (D : List ℕ → Dig) → List Check → Type 0
-AllComparing D [] = Unit {0}
-AllComparing D (c ∷ cs) = Comparing D c × AllComparing D cs
+AllComparing D = Every (Comparing D)
 
 module _ (D : List ℕ → Dig) where
   fitting : (k : Dig) (says : List Memo) (m : Dig) → noneFits D k says m ≡ false

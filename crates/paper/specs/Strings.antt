@@ -5,7 +5,7 @@ use mathlib.Core.List.{List, [], _∷_, _++_}
 use Prim.Native.Nat.{ℕ, _+_, _/_, _%_, _^_, _<_}
 use lib.Dec.{eqb, ltb}
 use lib.ListN.{length, replicate}
-use Rattle.seqs.specs.Choose.{pick, both, either, opposite}
+use Rattle.seqs.specs.Choose.{pick, both, either, opposite, Every}
 use Rattle.seqs.specs.Bytes.{be64, allZero}
 use Rattle.sha256.specs.Padding.{blocks}
 use Rattle.paper.specs.declared.Record.{Record}
@@ -109,8 +109,7 @@ FieldFits (numberField n) = n < 2 ^ 64
 FieldFits (digestField d) = length d ≡ 32
 
 abbrev pub FieldsFit : List Field → Type 0
-FieldsFit [] = Unit {0}
-FieldsFit (f ∷ l) = FieldFits f × FieldsFit l
+FieldsFit = Every FieldFits
 
 abbrev pub StringFits : Str → Type 0
 StringFits s = FieldsFit (fieldsOf s)

@@ -6,7 +6,7 @@ use mathlib.Core.List.{List, [], _∷_, _++_, Memᴰ·append-left, Memᴰ·appen
 use Prim.Native.Nat.{ℕ, _/_, _%_}
 use lib.Dec.{eqb}
 use lib.ListN.{length}
-use Rattle.seqs.specs.Choose.{pick}
+use Rattle.seqs.specs.Choose.{pick, Every}
 use Rattle.paper.specs.Strings.{Dig, Str, parentForms, digestOf, H, up, upForms, foldUp, foldForms}
 use Rattle.rings.specs.Meanings.{Within, Sibling, leftSibling, rightSibling, fold, PathIn, MeansU1}
 use Rattle.rings.proofs.Align.{fold-append, path-append}
@@ -28,8 +28,7 @@ topFirst (s ∷ p) = topFirst p ++ (s ∷ [])
 
 -- every sibling has 32 bytes
 abbrev pub AllWide : List Dig → Type 0
-AllWide [] = Unit {0}
-AllWide (s ∷ l) = (length s ≡ 32) × AllWide l
+AllWide = Every (λ s. length s ≡ 32)
 
 -- ── up a path, the lowest sibling first ──
 

@@ -7,7 +7,7 @@ use Prim.Native.Nat.{ℕ, zero, suc, _+_, _*_, _/_, _%_, _^_, _≤_, _<_}
 use native.Mathlib.Nat.{pow-suc}
 use native.Mathlib.Omega.{arith}
 use lib.ListN.{length, replicate}
-use Rattle.seqs.specs.Choose.{pick}
+use Rattle.seqs.specs.Choose.{pick, Every}
 use Rattle.seqs.specs.Bytes.{Bytes, allZero}
 use Rattle.paper.specs.declared.Record.{Record}
 use Rattle.paper.specs.Strings.{Dig, nought, node, entry, enc, digestOf, blank, recordHash, H, up, foldUp}
@@ -54,8 +54,7 @@ whole [] = []
 whole (p ∷ ps) = p ++ whole ps
 
 abbrev pub AllShort : List Way → Type 0
-AllShort [] = Unit {0}
-AllShort (p ∷ ps) = (length p ≤ mostSiblings) × AllShort ps
+AllShort = Every (λ p. length p ≤ mostSiblings)
 
 pub cut-whole : (room : ℕ) (p : Way) → inPaths room p .lowest ++ whole (inPaths room p .higher) ≡ p
 cut-whole room [] = refl

@@ -9,7 +9,7 @@ use native.Mathlib.Omega.{arith}
 use borrow.Author.Tests.{le-leb}
 use lib.ListN.{length, getD, take, drop, length-append}
 use lib.Seq.{take-at, drop-at}
-use Rattle.seqs.specs.Choose.{_and_}
+use Rattle.seqs.specs.Choose.{_and_, Every}
 use Rattle.seqs.specs.Bytes.{Bytes, be64, numberOf, number-be64, be64-length}
 use Rattle.paper.specs.declared.Record.{Record}
 use Rattle.paper.specs.declared.Values.{Values}
@@ -39,8 +39,7 @@ pub record IsDigest (d : Dig) : Type 0 where
   pub bytes : Bytes d
 
 abbrev pub AllDigests : List Dig → Type 0
-AllDigests [] = Unit {0}
-AllDigests (d ∷ l) = IsDigest d × AllDigests l
+AllDigests = Every IsDigest
 
 -- ── a carried thing, whatever comes behind it ──
 

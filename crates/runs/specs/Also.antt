@@ -8,6 +8,7 @@ use mathlib.Core.List.{List, [], _∷_, _++_}
 use mathlib.Core.Logic.{_⊎_}
 use Prim.Native.Nat.{ℕ, _-_, _≤_, _<_}
 use lib.ListN.{length, drop}
+use Rattle.seqs.specs.Choose.{Every}
 use Rattle.sha256.specs.Hash.{sha256}
 use Rattle.hex.specs.Hex.{bytesOf}
 use Rattle.paper.specs.declared.Record.{Record}
@@ -133,8 +134,7 @@ module _ (D : List ℕ → Dig) where
     pub means : MemoMeans (digestOf D) F says (i .does)
 
   abbrev pub AllBacked : List Str → List Issue → Type 0
-  AllBacked F [] = Unit {0}
-  AllBacked F (i ∷ b) = Backed F i × AllBacked F b
+  AllBacked F = Every (Backed F)
 
   abbrev pub MemorandaMean : Type 0
   MemorandaMean = (k : Dig) (ts : List LineTurn) → Ending D k ts ⊎ AllBacked (after D k ts .formed) (after D k ts .book)

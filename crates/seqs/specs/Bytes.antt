@@ -10,12 +10,11 @@ use borrow.Author.Tests.{eqb-true, eq-eqb}
 use lib.Dec.{eqb}
 use lib.ListN.{length, getD, take, drop, replicate, drop-of-length-le, length-take, length-append, length-replicate}
 use lib.Seq.{drop-cons, getD-take, getD-drop}
-use Rattle.seqs.specs.Choose.{both, both-true}
+use Rattle.seqs.specs.Choose.{both, both-true, Every}
 
 -- every element is a byte
 abbrev pub Bytes : List ℕ → Type 0
-Bytes [] = Unit {0}
-Bytes (b ∷ l) = (b < 256) × Bytes l
+Bytes = Every (λ b. b < 256)
 
 -- eight bits of x, from bit k on
 abbrev pub byteOf : ℕ → ℕ → ℕ

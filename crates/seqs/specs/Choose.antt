@@ -1,5 +1,5 @@
--- Choices by a test, for definitions that go by `ltb`, `leb` and `eqb` as papers go by "if"; and what is left where a `match` has
--- an arm for each of some numbers in a row.
+-- Choices by a test, for definitions that go by `ltb`, `leb` and `eqb` as papers go by "if"; what holds of every element of a list;
+-- and what is left where a `match` has an arm for each of some numbers in a row.
 use mathlib.Core.Bool.{Bool, true, false}
 use mathlib.Core.Path.{_≡_, refl}
 use mathlib.Core.List.{List, [], _∷_}
