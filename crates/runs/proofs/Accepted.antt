@@ -6,7 +6,7 @@ use mathlib.Core.List.{List, [], _∷_, _++_, List·Memᴰ, Memᴰ·append-left,
 use Prim.Native.Nat.{ℕ}
 use borrow.Author.Tests.{eqb-true}
 use lib.Dec.{eqb}
-use Rattle.seqs.specs.Choose.{pick, both, either, opposite, both-true}
+use Rattle.seqs.specs.Choose.{pick, both, either, opposite, both-true, Every}
 use Rattle.paper.specs.declared.Registers.{Registers}
 use Rattle.paper.specs.Strings.{Dig, Str}
 use Rattle.paper.specs.Requests.{Request}
@@ -32,8 +32,7 @@ none-applies ns cs h k n = here (among n ns) refl
 
 -- none of some checks fails
 abbrev pub NoneFails : List Check → Type 0
-NoneFails [] = Unit {0}
-NoneFails (c ∷ cs) = (c .fails ≡ false) × NoneFails cs
+NoneFails = Every (λ c. c .fails ≡ false)
 
 applies-not : (n : ℕ) (cs : List Check) → NoneFails cs → applies n cs ≡ false
 applies-not n [] h = refl

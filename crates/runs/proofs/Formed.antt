@@ -8,7 +8,7 @@ use native.Mathlib.Omega.{arith}
 use borrow.Author.Tests.{eqb-false}
 use lib.Dec.{eqb}
 use lib.ListN.{length}
-use Rattle.seqs.specs.Choose.{pick, either, _and_}
+use Rattle.seqs.specs.Choose.{pick, either, _and_, Every}
 use Rattle.seqs.specs.Bytes.{same, allZero}
 use Rattle.paper.specs.declared.Record.{Record}
 use Rattle.paper.specs.declared.Values.{Values}
@@ -28,8 +28,7 @@ use Rattle.runs.proofs.Widths.{Is32, Wide}
 -- ── lists of well formed strings ──
 
 abbrev pub Well : List Str → Type 0
-Well [] = Unit {0}
-Well (s ∷ l) = StringFits s × Well l
+Well = Every StringFits
 
 pub well-at : (l : List Str) (s : Str) → Well l → List·Memᴰ s l → StringFits s
 well-at (t ∷ l) s h (List·Memᴰ·head e) = subst StringFits (sym e) (h .0)
@@ -50,8 +49,7 @@ below-top c h e = omega (arith, eqb-false c top e)
 -- ── the strings of checks ──
 
 abbrev WellChecks : List Check → Type 0
-WellChecks [] = Unit {0}
-WellChecks (c ∷ cs) = Well (c .forms) × WellChecks cs
+WellChecks = Every (λ c. Well (c .forms))
 
 well-those : (n : ℕ) (cs : List Check) → WellChecks cs → Well (formedAt n cs)
 well-those n [] h = tt
@@ -86,8 +84,7 @@ module _ (D : List ℕ → Dig) (D32 : (l : List ℕ) → length (D l) ≡ 32) w
   well-memo t k l h i = (h, i)
 
   abbrev WellMemos : Dig → List Memo → Type 0
-  WellMemos k [] = Unit {0}
-  WellMemos k (t ∷ l) = WellMemo t k × WellMemos k l
+  WellMemos k = Every (λ t. WellMemo t k)
 
   well-tried : (k : Dig) (says : List Memo) (m : Dig) → WellMemos k says → Well (tried D k says m)
   well-tried k [] m h = tt

@@ -8,7 +8,7 @@ use borrow.Author.Tests.{eqb-true, leb-true}
 use lib.Dec.{leb}
 use lib.ListN.{length, getD, take, drop, length-drop}
 use lib.Seq.{length-take-le, getD-take}
-use Rattle.seqs.specs.Choose.{both-true, _and_}
+use Rattle.seqs.specs.Choose.{both-true, _and_, Every}
 use Rattle.seqs.specs.Bytes.{Bytes, numberOf, number8, numberAt, number-at}
 use Rattle.paper.specs.Strings.{Dig}
 use Rattle.rings.proofs.Paths.{AllWide}
@@ -122,8 +122,7 @@ abbrev WideRow : KindRow → Type 0
 WideRow k = (p : ℕ → List ℕ) → ((i : ℕ) → SizedAt (k .carries) i (p i)) → Wide (k .reads p)
 
 abbrev WideRows : List KindRow → Type 0
-WideRows [] = Unit {0}
-WideRows (k ∷ ks) = WideRow k × WideRows ks
+WideRows = Every WideRow
 
 wide-row : (ks : List KindRow) (i : ℕ) (d : KindRow) → i < length ks → WideRows ks → WideRow (getD ks i d)
 wide-row [] i d n h = absurd (omega arith)
