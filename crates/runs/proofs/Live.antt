@@ -8,7 +8,7 @@ use native.Mathlib.Nat.{mod-lt}
 use native.Mathlib.Omega.{arith}
 use lib.ListN.{length}
 use Rattle.seqs.specs.Choose.{_and_}
-use Rattle.seqs.specs.Bytes.{Bytes, be32}
+use Rattle.seqs.specs.Bytes.{Bytes, be32, bytes-append}
 use Rattle.sha256.specs.Hash.{sha256}
 use Rattle.sha256.proofs.Digests.{sha256-length}
 use Rattle.paper.specs.declared.Registers.{Registers}
@@ -26,7 +26,6 @@ use Rattle.runs.specs.Frames.{turnsOf}
 use Rattle.runs.specs.Honest.{honestLines}
 use Rattle.runs.specs.TreesAfter.{treeAfter}
 use Rattle.runs.specs.Liveness.{latestFirst, Spaced, lastReply, AnsweredTruly, AllGrantable, LiveOrEnded, linesFor, Granted, FunctionsGrant, LivenessFor, Liveness}
-use Rattle.runs.proofs.Parts.{bytes-append}
 use Rattle.runs.proofs.Sizes.{item-fits, insert-fits, remove-fits, put-fits, none-fits, none-well-formed, next-fits, next-well-formed}
 use Rattle.runs.proofs.Runs.{safety}
 use Rattle.runs.proofs.Spaces.{some-turns, fed-same, honest-same, reply-same}

@@ -4,13 +4,13 @@ use mathlib.Core.Path.{_≡_, refl, sym}
 use mathlib.Core.Bool.{true}
 use mathlib.Core.List.{List, [], _∷_, _++_, append-assoc}
 use Prim.Native.Nat.{ℕ, zero, suc, _+_, _*_, _%_, _^_, _≤_, _<_}
-use native.Mathlib.Nat.{lt-of-lt-of-le, mod-lt, div-eq-of-lt, pow-le-pow-right}
+use native.Mathlib.Nat.{lt-of-lt-of-le, div-eq-of-lt, pow-le-pow-right}
 use native.Mathlib.Omega.{arith}
 use borrow.Author.Tests.{le-leb}
 use lib.ListN.{length, getD, take, drop, length-append}
 use lib.Seq.{take-at, drop-at}
 use Rattle.seqs.specs.Choose.{_and_, Every}
-use Rattle.seqs.specs.Bytes.{Bytes, be64, numberOf, number-be64, be64-length}
+use Rattle.seqs.specs.Bytes.{Bytes, be64, numberOf, number-be64, be64-length, bytes-append, be64-bytes}
 use Rattle.paper.specs.declared.Record.{Record}
 use Rattle.paper.specs.declared.Values.{Values}
 use Rattle.paper.specs.Strings.{Dig}
@@ -18,20 +18,6 @@ use Rattle.paper.specs.Requests.{Carried, aNumber, aDigest, aRecord, theValues,
 use Rattle.runs.specs.Frames.{together, recordBytes, valuesBytes, pathBytes}
 use Rattle.runs.specs.Sizes.{InEightBytes, ValuesFit, RecordFits}
 use Rattle.runs.proofs.Widths.{Is32}
-
--- ── bytes ──
-
-pub bytes-append : (a b : List ℕ) → Bytes a → Bytes b → Bytes (a ++ b)
-bytes-append [] b h k = k
-bytes-append (x ∷ a) b h k = (h .0, bytes-append a b (h .1) k)
-
-a-byte : (n : ℕ) → n % 256 < 256
-a-byte n = mod-lt n (omega arith)
-
-be64-bytes : (n : ℕ) → Bytes (be64 n)
-unfolding be64
-be64-bytes n =
-    a-byte _ and a-byte _ and a-byte _ and a-byte _ and a-byte _ and a-byte _ and a-byte _ and a-byte _ and tt
 
 -- a digest that a line can carry: 32 bytes
 pub record IsDigest (d : Dig) : Type 0 where

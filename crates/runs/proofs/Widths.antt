@@ -9,7 +9,7 @@ use lib.Dec.{leb}
 use lib.ListN.{length, getD, take, drop, length-drop}
 use lib.Seq.{length-take-le, getD-take}
 use Rattle.seqs.specs.Choose.{both-true, _and_, Every}
-use Rattle.seqs.specs.Bytes.{Bytes, numberOf, number8, numberAt, number-at}
+use Rattle.seqs.specs.Bytes.{Bytes, numberOf, number-at, bytes-take, bytes-drop, number-below}
 use Rattle.paper.specs.Strings.{Dig}
 use Rattle.rings.proofs.Paths.{AllWide}
 use Rattle.paper.specs.Requests as Q
@@ -43,31 +43,8 @@ Wide (Q.unlock k) = Is32 k
 
 -- ── numbers of bytes ──
 
-bytes-take : (n : ℕ) (l : List ℕ) → Bytes l → Bytes (take n l)
-bytes-take zero l h = tt
-bytes-take (suc n) [] h = tt
-bytes-take (suc n) (b ∷ l) h = (h .0, bytes-take n l (h .1))
-
-bytes-drop : (n : ℕ) (l : List ℕ) → Bytes l → Bytes (drop n l)
-bytes-drop zero l h = h
-bytes-drop (suc n) [] h = tt
-bytes-drop (suc n) (b ∷ l) h = bytes-drop n l (h .1)
-
-byte-at : (l : List ℕ) (i : ℕ) → Bytes l → getD l i 0 < 256
-byte-at [] i h = omega arith
-byte-at (b ∷ l) zero h = h .0
-byte-at (b ∷ l) (suc i) h = byte-at l i (h .1)
-
-eight : (a b c d e f g h : ℕ) → a < 256 → b < 256 → c < 256 → d < 256 → e < 256 → f < 256 → g < 256 → h < 256
-    → number8 a b c d e f g h < 2 ^ 64
-eight a b c d e f g h ha hb hc hd he hf hg hh = omega arith
-
 number-small : (l : List ℕ) → Bytes l → 8 ≤ length l → InEightBytes (numberOf (take 8 l))
-unfolding numberAt
-number-small l h n =
-    subst InEightBytes (sym (number-at l 0 n))
-    (let at : (i : ℕ) → getD l i 0 < 256 = λ i. byte-at l i h in
-    eight _ _ _ _ _ _ _ _ (at 0) (at 1) (at 2) (at 3) (at 4) (at 5) (at 6) (at 7))
+number-small l h n = subst InEightBytes (sym (number-at l 0 n)) (number-below l 0 h)
 
 -- ── what a row of the table carries ──
 

@@ -1,16 +1,16 @@
 -- Bytes: numbers as bytes, most significant first, and back; equality and zero of lists of bytes.
 use mathlib.Core.Bool.{Bool, true, false}
-use mathlib.Core.Path.{_≡_, refl, _∙_}
+use mathlib.Core.Path.{_≡_, refl, sym, _∙_}
 use mathlib.Core.List.{List, [], _∷_, _++_}
 use Prim.Native.Nat.{ℕ, zero, suc, _+_, _*_, _/_, _%_, _^_, _<_, _≤_}
-use native.Mathlib.Nat.{add-zero, div-div-eq-div-mul, div-add-mod, mod-eq-of-lt}
+use native.Mathlib.Nat.{add-zero, div-div-eq-div-mul, div-add-mod, mod-eq-of-lt, mod-lt}
 use native.Mathlib.Numerals.{add-one}
 use native.Mathlib.Omega.{arith}
 use borrow.Author.Tests.{eqb-true, eq-eqb}
 use lib.Dec.{eqb}
-use lib.ListN.{length, getD, take, drop, replicate, drop-of-length-le, length-take, length-append, length-replicate}
+use lib.ListN.{length, getD, take, drop, replicate, drop-of-length-le, length-take, length-drop, length-append, length-replicate}
 use lib.Seq.{drop-cons, getD-take, getD-drop}
-use Rattle.seqs.specs.Choose.{both, both-true, Every}
+use Rattle.seqs.specs.Choose.{both, both-true, Every, _and_}
 
 -- every element is a byte
 abbrev pub Bytes : List ℕ → Type 0
@@ -186,3 +186,60 @@ zero-step l i t h e = rw (drop-cons l i 0 h, add-one, e)
 
 pub zero-end : (l : List ℕ) (i : ℕ) → length l ≤ i → allZero (drop i l) ≡ true
 zero-end l i h = rw (drop-of-length-le l h)
+
+-- ── lists of bytes ──
+
+pub bytes-append : (a b : List ℕ) → Bytes a → Bytes b → Bytes (a ++ b)
+bytes-append [] b h k = k
+bytes-append (x ∷ a) b h k = (h .0, bytes-append a b (h .1) k)
+
+pub bytes-take : (n : ℕ) (l : List ℕ) → Bytes l → Bytes (take n l)
+bytes-take zero l h = tt
+bytes-take (suc n) [] h = tt
+bytes-take (suc n) (b ∷ l) h = (h .0, bytes-take n l (h .1))
+
+pub bytes-drop : (n : ℕ) (l : List ℕ) → Bytes l → Bytes (drop n l)
+bytes-drop zero l h = h
+bytes-drop (suc n) [] h = tt
+bytes-drop (suc n) (b ∷ l) h = bytes-drop n l (h .1)
+
+pub byte-at : (l : List ℕ) (i : ℕ) → Bytes l → getD l i 0 < 256
+byte-at [] i h = omega arith
+byte-at (b ∷ l) zero h = h .0
+byte-at (b ∷ l) (suc i) h = byte-at l i (h .1)
+
+a-byte : (n : ℕ) → n % 256 < 256
+a-byte n = mod-lt n (omega arith)
+
+pub be64-bytes : (n : ℕ) → Bytes (be64 n)
+unfolding be64
+be64-bytes n =
+    a-byte _ and a-byte _ and a-byte _ and a-byte _ and a-byte _ and a-byte _ and a-byte _ and a-byte _ and tt
+
+eight : (a b c d e f g h : ℕ) → a < 256 → b < 256 → c < 256 → d < 256 → e < 256 → f < 256 → g < 256 → h < 256
+    → number8 a b c d e f g h < 2 ^ 64
+eight a b c d e f g h ha hb hc hd he hf hg hh = omega arith
+
+-- eight bytes are a number below 2 ^ 64, and no other eight bytes are it
+pub number-below : (l : List ℕ) (at : ℕ) → Bytes l → numberAt l at < 2 ^ 64
+unfolding numberAt
+number-below l at h = eight _ _ _ _ _ _ _ _ (b at) (b (at + 1)) (b (at + 2)) (b (at + 3)) (b (at + 4)) (b (at + 5)) (b (at + 6)) (b (at + 7))
+  where
+    b : (i : ℕ) → getD l i 0 < 256
+    b i = byte-at l i h
+
+one-number : (l m : List ℕ) (x y : ℕ) → length l ≡ length m → Bytes l → Bytes m → numberFrom x l ≡ numberFrom y m → (x ≡ y) × (l ≡ m)
+one-number [] [] x y n h k e = (e, refl)
+one-number [] (b ∷ m) x y n h k e = absurd (omega arith)
+one-number (a ∷ l) [] x y n h k e = absurd (omega arith)
+one-number (a ∷ l) (b ∷ m) x y n h k e =
+    let p = one-number l m (256 * x + a) (256 * y + b) (omega arith) (h .1) (k .1) e in
+    let first : a ≡ b = omega (arith, p .0, h .0, k .0) in
+    (omega (arith, p .0, h .0, k .0), (λ i. first i ∷ p .1 i))
+
+pub be64-number : (l : List ℕ) (at : ℕ) → Bytes l → at + 8 ≤ length l → be64 (numberAt l at) ≡ take 8 (drop at l)
+be64-number l at h room =
+    let part : length (take 8 (drop at l)) ≡ 8 = simp (length-take, length-drop) (omega arith) in
+    one-number (be64 (numberAt l at)) (take 8 (drop at l)) 0 0 (be64-length (numberAt l at) ∙ sym part) (be64-bytes _)
+    (bytes-take 8 (drop at l) (bytes-drop at l h))
+    (number-be64 (numberAt l at) (number-below l at h) ∙ sym (number-at l at room)) .1
