@@ -21,7 +21,7 @@ use Rattle.store.proofs.Texts.{first-line, digits-no-end, read-as, fron
 
 -- ── a leaf and its bytes ──
 
-bytes-long : (r : Row) → length (rowBytes r) ≡ 48
+pub bytes-long : (r : Row) → length (rowBytes r) ≡ 48
 unfolding rowBytes be64
 bytes-long r = refl
 

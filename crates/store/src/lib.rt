@@ -8,11 +8,13 @@ use paper::Revision;
 use paper::Rigging;
 use rows::Row;
 ghost use mathlib.Core.Path.{_≡_};
+ghost use Prim.Native.Nat.{_*_};
 ghost use lib.Dec.{leb};
 ghost use lib.ListN.{length, drop};
 ghost use Rattle.seqs.specs.Over.{written};
+ghost use Rattle.rows.specs.Rows.{rowsFrom};
 ghost use Rattle.store.specs.Lines.{lineBytes, rowBytes, rowIn, mayStand, lineRead, lineOfRow};
-ghost use Rattle.store.specs.Texts.{linesIn, frontLine, isLeaf};
+ghost use Rattle.store.specs.Texts.{linesIn, textOf, frontLine, isLeaf};
 
 // The digits of a line, and its bytes with the 0A. The definitions' names are `lineDigits` and `lineBytes`.
 pub const DIGITS: usize = 96;
@@ -150,4 +152,23 @@ pub fn count_lines(text: &[u8]) -> Lines
         n += 1;
     }
     Lines::Readable(n)
+}
+
+// Writes the lines of the first k leaves over the front of the space, or nothing where they do not fit: whether they do.
+pub fn save(leaves: &[u64], k: usize, space: &mut [u8]) -> bool
+    ensures { λ r. ⌜ r ≡ leb (lineBytes * k) (length (now (space .entry))) ⌝ }
+    ensures { λ _. ⌜ now (space .exit) ≡ written (textOf (rowsFrom (now (leaves .entry)) k 0)) (now (space .entry)) ⌝ }
+{
+    if space.len() / LINE < k {
+        return false;
+    }
+    let mut i: usize = 0;
+    while i < k {
+        let r = rows::row_at(leaves, i);
+        let mut line = [0u8; LINE];
+        write_line(r, &mut line);
+        fields::put(space, LINE * i, &line);
+        i += 1;
+    }
+    true
 }
