@@ -1,15 +1,17 @@
 -- A list written over the front of a buffer, element by element.
 -- A loop that fills a buffer keeps `buffer ≡ over i written buffer₀`: a turn is `over-next`, the end `over-all`.
 use mathlib.Core.Path.{_≡_, refl, sym, ap, _∙_}
-use mathlib.Core.List.{List, [], _∷_, _++_}
-use Prim.Native.Nat.{ℕ, zero, suc, _+_, _<_, _≤_}
+use mathlib.Core.List.{List, [], _∷_, _++_, append-assoc}
+use mathlib.Core.Logic.{_⊎_, inl, inr}
+use Prim.Native.Nat.{ℕ, zero, suc, _+_, _-_, _<_, _≤_}
 use native.Mathlib.Nat.{not-suc-le-zero, le-of-suc-le-suc}
 use native.Mathlib.Numerals.{add-one}
 use native.Mathlib.Omega.{arith}
+use native.Mathlib.Decide.{decLe}
 use borrow.Author.Tests.{le-leb, lt-leb}
 use lib.Dec.{leb}
-use lib.ListN.{length, getD, take, drop, set, length-append, length-drop}
-use lib.Seq.{take-all, take-at, drop-append-add, drop-drop}
+use lib.ListN.{length, getD, take, drop, set, length-append, length-take, length-drop, List·getD-append}
+use lib.Seq.{take-all, take-at, drop-append-add, drop-drop, getD-take, getD-drop, getD-append-add}
 use Rattle.seqs.specs.Choose.{pick}
 
 module _ {ℓ} {A : Type ℓ} where
@@ -51,6 +53,52 @@ module _ {ℓ} {A : Type ℓ} where
   -- a buffer into which a list is to be put at a place: it is, where it fits, and else nothing is
   unfoldable pub putAt : List A → ℕ → List A → List A
   putAt d at s = pick (leb (at + length s) (length d)) ((take at d ++ s) ++ drop (at + length s) d) d
+
+  pub put-not : (d : List A) (at : ℕ) (s : List A) → length d < at + length s → putAt d at s ≡ d
+  unfolding putAt
+  put-not d at s h = rw (lt-leb (at + length s) (length d) h)
+
+  pub put-length : (d : List A) (at : ℕ) (s : List A) → length (putAt d at s) ≡ length d
+  unfolding putAt
+  put-length d at s =
+      elim (decLe (at + length s) (length d)) [
+        | yes h ↦ rw (le-leb _ _ h) (simp (length-append, length-take, length-drop) (omega arith))
+        | no n ↦ ap length (put-not d at s (omega arith))
+      ]
+
+  -- an element in the place, and one elsewhere
+  past-first : (l r : List A) (n j : ℕ) (z : A) → length l ≡ n → getD (l ++ r) (n + j) z ≡ getD r j z
+  past-first l r n j z e = ap (λ (k : ℕ). getD (l ++ r) (k + j) z) (sym e) ∙ getD-append-add l r j z
+
+  pub put-there : (d : List A) (at : ℕ) (s : List A) (j : ℕ) (z : A) → at + length s ≤ length d → j < length s
+      → getD (putAt d at s) (at + j) z ≡ getD s j z
+  unfolding putAt
+  put-there d at s j z room h =
+      let t : length (take at d) ≡ at = simp length-take (omega arith) in
+      rw (le-leb (at + length s) (length d) room, append-assoc (take at d) s (drop (at + length s) d))
+      (past-first (take at d) (s ++ drop (at + length s) d) at j z t ∙ List·getD-append s (drop (at + length s) d) z j h)
+
+  pub put-elsewhere : (d : List A) (at : ℕ) (s : List A) (n j : ℕ) (z : A) → length s ≡ n → (j < at) ⊎ (at + n ≤ j)
+      → getD (putAt d at s) j z ≡ getD d j z
+  unfolding putAt
+  put-elsewhere d at s n j z e side =
+      elim (decLe (at + length s) (length d)) [
+        | yes h ↦ rw (le-leb (at + length s) (length d) h) (by-side h side)
+        | no m ↦ ap (λ (l : List A). getD l j z) (put-not d at s (omega arith))
+      ]
+    where
+      by-side : at + length s ≤ length d → (j < at) ⊎ (at + n ≤ j)
+          → getD ((take at d ++ s) ++ drop (at + length s) d) j z ≡ getD d j z
+      by-side room (inl h) =
+          let t : length (take at d) ≡ at = simp length-take (omega arith) in
+          List·getD-append (take at d ++ s) _ z j (simp length-append (omega (arith, t)))
+          ∙ List·getD-append (take at d) s z j (omega arith) ∙ getD-take at d j z h
+      by-side room (inr h) =
+          let m = at + length s in
+          let t : length (take at d ++ s) ≡ m = simp (length-append, length-take) (omega arith) in
+          let i : m + (j - m) ≡ j = omega (arith, e) in
+          ap (λ (k : ℕ). getD ((take at d ++ s) ++ drop m d) k z) (sym i)
+          ∙ past-first (take at d ++ s) (drop m d) m (j - m) z t ∙ getD-drop m d (j - m) z ∙ ap (λ (k : ℕ). getD d k z) i
 
   -- a run of puts, each where the last one ended: p stands over the front of d
   pub record Front (d e p : List A) (at : ℕ) : Type ℓ where
