@@ -5,5 +5,7 @@
 #![forbid(unsafe_code)]
 
 pub mod digests;
+pub mod keeper;
 pub mod store;
+pub mod talk;
 pub mod tree;
