@@ -6,6 +6,8 @@
 
 pub mod digests;
 pub mod keeper;
+pub mod program;
 pub mod store;
 pub mod talk;
 pub mod tree;
+pub mod words;
