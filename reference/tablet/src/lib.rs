@@ -10,4 +10,5 @@ pub mod program;
 pub mod store;
 pub mod talk;
 pub mod tree;
+pub mod wishes;
 pub mod words;
