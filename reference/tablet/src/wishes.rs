@@ -54,7 +54,7 @@ impl Mood {
         match self {
             Mood::Mixed => [25, 20, 20, 10, 20],
             Mood::Grow => [90, 1, 3, 1, 3],
-            Mood::Shrink => [1, 60, 3, 30, 4],
+            Mood::Shrink => [1, 68, 3, 20, 6],
             Mood::Weigh => [5, 2, 45, 25, 20],
         }
     }
@@ -111,6 +111,18 @@ impl Wishes {
             };
         }
         self.lines -= 1;
+        if self.has_its_way() {
+            self.lines = self.lines.min(20);
+        }
+    }
+
+    /// Whether there is nothing more to grow or to shrink.
+    fn has_its_way(&self) -> bool {
+        match self.mood {
+            Mood::Grow => self.list.len() == SLOTS,
+            Mood::Shrink => self.list.is_empty(),
+            Mood::Mixed | Mood::Weigh => false,
+        }
     }
 
     /// A wish of a sort, in the order of the shares.
