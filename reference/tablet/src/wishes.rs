@@ -132,7 +132,7 @@ impl Wishes {
             1 => self.remove(),
             2 => self.set(),
             3 => self.clear(),
-            _ => format!("ask {}", self.some_number()),
+            _ => self.ask(),
         }
     }
 
@@ -150,8 +150,15 @@ impl Wishes {
         format!("insert {}", item)
     }
 
+    fn ask(&mut self) -> String {
+        let aimed = self.random.below(2) == 0;
+        let q = if aimed { self.mostly(|recorded| recorded) } else { self.some_number() };
+        format!("ask {}", q)
+    }
+
     fn remove(&mut self) -> String {
-        let item = self.mostly(|recorded| !recorded);
+        let aimed = self.random.below(10) != 0;
+        let item = self.mostly(|recorded| recorded != aimed);
         if self.list.get(&item) == Some(&false) && self.takes_changes() {
             self.list.remove(&item);
         }
