@@ -15,6 +15,16 @@ slotCount = 1024
 abbrev pub levelCount : ℕ
 levelCount = 10
 
+-- the node so many levels above v
+abbrev pub ancestor : (levels v : ℕ) → ℕ
+ancestor zero v = v
+ancestor (suc n) v = ancestor n (v / 2)
+
+-- how many levels stand below the two halves of the lowest node above both u and v, looked for n levels up
+abbrev pub meeting : (n u v : ℕ) → ℕ
+meeting zero u v = 0
+meeting (suc n) u v = pick (eqb (u / 2) (v / 2)) 0 (suc (meeting n (u / 2) (v / 2)))
+
 -- node v's digest; another one put there, where it fits
 unfoldable pub nodeAt : List ℕ → (v : ℕ) → Dig
 nodeAt m v = digestAt m (32 * v)
