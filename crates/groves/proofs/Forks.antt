@@ -9,7 +9,7 @@ use borrow.Author.Tests.{eq-eqb, ne-eqb}
 use Rattle.paper.specs.Strings.{Dig, H}
 use Rattle.rings.specs.Trees.{Tree, hashOf}
 use Rattle.runs.specs.Ways.{Way, rise}
-use Rattle.groves.specs.Grove.{ancestor, treeAt, grove, wayUp, meeting, slotFork}
+use Rattle.groves.specs.Grove.{ancestor, treeAt, grove, wayUp, meeting, forkAt}
 use Rattle.groves.proofs.Groves.{OnLevel, level-up, rises, ancestor-suc, way-same}
 
 -- two nodes of one row part below their meeting, and not above it
@@ -50,7 +50,7 @@ module _ (D : List ℕ → Dig) (f g : ℕ → Tree) (u v : ℕ) (ru : OnLevel 1
     (same : (w : ℕ) → w ≢ u → w ≢ v → f w ≡ g w) where
   -- with the ways of f, what g has in both slots rises to the root of g's tree
   pub fork-rises :
-      (let k = slotFork f u v in
+      (let k = forkAt f u v in
       rise D (k .above) (H D (rise D (k .left) (hashOf D (g u))) (rise D (k .right) (hashOf D (g v)))) ≡ hashOf D (grove g))
   unfolding grove
   fork-rises =

@@ -5,8 +5,10 @@
 -- Puts        a leaf put keeps the tree with that leaf; memory of zeros keeps empty slots
 -- Found       the leaf that a test finds and its way: the first slot that passes, and the way up from it
 -- Forks       two slots under their fork
+-- SlotLines   honest lines over slots: insert, swap, and the last leaf taken out
 pub mod Groves
 pub mod Stored
 pub mod Puts
 pub mod Found
 pub mod Forks
+pub mod SlotLines

@@ -47,8 +47,8 @@ meeting zero u v = 0
 meeting (suc n) u v = pick (eqb (u / 2) (v / 2)) 0 (suc (meeting n (u / 2) (v / 2)))
 
 -- the ways of slot nodes u and v up to those halves, and the way above that node; u stands on the left
-abbrev pub slotFork : (ℕ → Tree) → (u v : ℕ) → Fork
-slotFork f u v =
+abbrev pub forkAt : (ℕ → Tree) → (u v : ℕ) → Fork
+forkAt f u v =
     let k = meeting (levelCount - 1) u v in
     record {
       left = wayUp f k 0 u;

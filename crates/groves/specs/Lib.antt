@@ -1,1 +1,2 @@
 pub mod Grove
+pub mod SlotLines
