@@ -9,7 +9,8 @@ use borrow.Author.Tests.{eq-eqb, ne-eqb}
 use Rattle.paper.specs.Strings.{Dig, H}
 use Rattle.rings.specs.Trees.{Tree, hashOf}
 use Rattle.runs.specs.Ways.{Way, rise}
-use Rattle.groves.specs.Grove.{ancestor, treeAt, grove, wayUp, meeting, forkAt}
+use Rattle.slots.specs.Nodes.{ancestor, meeting}
+use Rattle.groves.specs.Grove.{treeAt, grove, wayUp, forkAt}
 use Rattle.groves.proofs.Groves.{OnLevel, level-up, rises, ancestor-suc, way-same}
 
 -- two nodes of one row part below their meeting, and not above it

@@ -8,7 +8,8 @@ use native.Mathlib.Decide.{ℕ-discrete}
 use borrow.Author.Tests.{eq-eqb, ne-eqb}
 use Rattle.rings.specs.Trees.{TreeLeaf, Tree, tip}
 use Rattle.runs.specs.Ways.{Level, onLeft, onRight, Way, has, found, wayTo}
-use Rattle.groves.specs.Grove.{ancestor, treeAt, levelAt, wayUp}
+use Rattle.slots.specs.Nodes.{ancestor}
+use Rattle.groves.specs.Grove.{treeAt, levelAt, wayUp}
 use Rattle.groves.proofs.Groves.{ancestor-suc}
 
 before : (n w u : ℕ) → ancestor n w < ancestor n u → w < u

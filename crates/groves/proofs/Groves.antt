@@ -12,8 +12,8 @@ use lib.Arith.{mod-mul}
 use Rattle.paper.specs.Strings.{Dig, H, up}
 use Rattle.rings.specs.Trees.{Tree, branch, hashOf}
 use Rattle.runs.specs.Ways.{Level, onLeft, onRight, Way, sidesOf, siblingsOf, rise}
-use Rattle.slots.specs.Nodes.{slotCount, levelCount, nodeAt, siblingAt, siblingsUp, summed, climbed}
-use Rattle.groves.specs.Grove.{ancestor, treeAt, levelAt, wayUp, Kept}
+use Rattle.slots.specs.Nodes.{slotCount, levelCount, ancestor, nodeAt, siblingAt, siblingsUp, summed, climbed}
+use Rattle.groves.specs.Grove.{treeAt, levelAt, wayUp, Kept}
 
 -- node v has a levels above it
 pub record OnLevel (a v : ℕ) : Type 0 where

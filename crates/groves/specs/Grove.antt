@@ -11,16 +11,11 @@ use Rattle.seqs.specs.Choose.{pick}
 use Rattle.paper.specs.Strings.{Dig}
 use Rattle.rings.specs.Trees.{TreeLeaf, Tree, empty, tip, branch, hashOf}
 use Rattle.runs.specs.Ways.{Level, onLeft, onRight, Way, Fork}
-use Rattle.slots.specs.Nodes.{slotCount, levelCount, nodeAt, summed}
+use Rattle.slots.specs.Nodes.{slotCount, levelCount, ancestor, meeting, nodeAt, summed}
 
 -- X in the place of slot node u
 abbrev pub with : (ℕ → Tree) → (u : ℕ) (X : Tree) → ℕ → Tree
 with f u X w = pick (eqb w u) X (f w)
-
--- so many levels up
-abbrev pub ancestor : (levels v : ℕ) → ℕ
-ancestor zero v = v
-ancestor (suc n) v = ancestor n (v / 2)
 
 module _ (f : ℕ → Tree) where
   -- node v with so many levels below it
@@ -41,12 +36,7 @@ module _ (f : ℕ → Tree) where
   wayUp zero h v = []
   wayUp (suc n) h v = levelAt h v ∷ wayUp n (suc h) (v / 2)
 
--- how many levels stand below the two halves of the lowest node above both u and v
-abbrev pub meeting : (levels u v : ℕ) → ℕ
-meeting zero u v = 0
-meeting (suc n) u v = pick (eqb (u / 2) (v / 2)) 0 (suc (meeting n (u / 2) (v / 2)))
-
--- the ways of slot nodes u and v up to those halves, and the way above that node; u stands on the left
+-- the ways of slot nodes u and v up to the halves of the lowest node above both, and the way above that node; u stands on the left
 abbrev pub forkAt : (ℕ → Tree) → (u v : ℕ) → Fork
 forkAt f u v =
     let k = meeting (levelCount - 1) u v in
