@@ -14,7 +14,7 @@ abbrev start : tie.After-g → tie.Start
 start c = c .before .before .before .before .before .before .before .before
 
 returns : tie.Need-returns
-returns c = let a = c .before .args in sym (row-past (a .leaves .now) (a .i) (a .r) (c .if1 .taken))
+returns c = let a = c .before .args in sym (row-past (a .leaves .now) (a .i) (a .r) (omega arith))
 
 returns-2 : tie.Need-returns-2
 unfolding rowPut
