@@ -1,3 +1,2 @@
-pub mod Seeks
-pub mod Sought
+pub mod InMemory
 pub mod Puts

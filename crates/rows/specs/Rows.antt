@@ -5,7 +5,8 @@ use mathlib.Core.List.{List, [], _∷_}
 use Prim.Native.Nat.{ℕ, zero, suc, _+_, _*_}
 use lib.Dec.{eqb}
 use lib.ListN.{getD}
-use Rattle.seqs.specs.Choose.{pick, either}
+use Rattle.seqs.specs.Choose.{either}
+use Rattle.seqs.specs.First.{firstFrom}
 use Rattle.seqs.specs.Over.{putAt}
 use Rattle.paper.specs.Strings.{numbers, inGap}
 use Rattle.rows.specs.declared.Row.{Row}
@@ -49,8 +50,7 @@ rowPut m i r = putAt m (rowNumbers * i) (numbersIn r)
 
 -- the place of the first that passes, of n from i on; else the place behind them
 abbrev pub seek : (Row → Bool) → List ℕ → (n i : ℕ) → ℕ
-seek p m zero i = i
-seek p m (suc n) i = pick (p (rowAt m i)) i (seek p m n (i + 1))
+seek p m = firstFrom (λ i. p (rowAt m i))
 
 -- the leaf of item A; the leaf that leads to A; the leaf whose gap holds q; the leaf that answers a question on q
 abbrev pub ofItem : (A : ℕ) → Row → Bool

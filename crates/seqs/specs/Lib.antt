@@ -1,3 +1,4 @@
 pub mod Choose
 pub mod Bytes
 pub mod Over
+pub mod First
