@@ -13,7 +13,7 @@ use Rattle.rings.proofs.Counting.{one-same, count-nil, count-cons, count-cases,
 use Rattle.rings.proofs.Ring.{bounds, leaf-item}
 use Rattle.runs.specs.Ways.{itemOf, nextOf, hashIn}
 
-one-most : (x y : TreeLeaf) → one x y ≤ 1
+pub one-most : (x y : TreeLeaf) → one x y ≤ 1
 unfolding one
 one-most x y = by-test (TreeLeaf-discrete x y)
   where
