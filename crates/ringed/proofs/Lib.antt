@@ -1,2 +1,4 @@
 pub mod Ringed
 pub mod Pairs
+pub mod InMemory
+pub mod ByHand

@@ -7,18 +7,18 @@ use mathlib.Core.Logic.{inl, inr, _≢_}
 use Prim.Native.Nat.{ℕ, zero, suc, _<_}
 use native.Mathlib.Nat.{not-suc-le-zero}
 use native.Mathlib.Omega.{arith}
-use native.Mathlib.Decide.{decLt, ℕ-discrete}
-use borrow.Author.Tests.{eqb-true, eqb-false, ltb-true, ltb-false, eq-eqb, ne-eqb, lt-ltb, le-ltb}
+use native.Mathlib.Decide.{ℕ-discrete}
+use borrow.Author.Tests.{eqb-true, eqb-false, ltb-true, ltb-false, eq-eqb, ne-eqb, le-ltb}
 use lib.Dec.{eqb, ltb}
 use lib.ListN.{length}
 use Rattle.seqs.specs.Choose.{pick, either, opposite, either-yes}
-use Rattle.seqs.specs.First.{first-most, first-passes, first-none-before, first-nowhere, first-reaches}
+use Rattle.seqs.specs.First.{first-passes, first-none-before, first-nowhere}
 use Rattle.paper.specs.Strings.{inGap}
 use Rattle.rings.proofs.Gaps.{gap-holds, gap-apart}
 use Rattle.rows.specs.declared.Row.{Row}
-use Rattle.rows.specs.Rows.{ofItem, gapOf, telling}
+use Rattle.rows.specs.Rows.{ofItem, gapOf}
 use Rattle.ringed.specs.Ringed.{Distinct, Closed}
-use Rattle.ringed.specs.Pairs.{rowOf, anyOf, breaks, Unbroken, breakOf, breaker, Break, breakAt, noBreak, firstBreak}
+use Rattle.ringed.specs.Pairs.{rowOf, anyOf, breaks, Unbroken, breakOf, breaker, breakAt, noBreak, firstBreak, BreaksFirst}
 
 -- ── tests ──
 
@@ -33,6 +33,13 @@ no-opposite false e = absurd (true≢false e)
 not-true : (b : Bool) → (b ≡ true → ⊥) → b ≡ false
 not-true true f = absurd (f refl)
 not-true false f = refl
+
+-- of a leaf alone the first test is made, and of two leaves the second
+of-one : (i : ℕ) (a b : Bool) → pick (eqb i i) a b ≡ a
+of-one i a b = rw (eq-eqb i i refl) refl
+
+of-two : (i j : ℕ) (a b : Bool) → i ≢ j → pick (eqb i j) a b ≡ b
+of-two i j a b n = rw (ne-eqb i j n) refl
 
 -- ── leaves by their places ──
 
@@ -85,13 +92,7 @@ distinct-apart (r ∷ l) (suc i) (suc j) d n g h =
 -- ── no pair breaks, and the ring is closed ──
 
 module _ (rs : List Row) where
-  -- what is tested of a leaf alone, and of two
-  led : (i : ℕ) → breaks rs i i ≡ opposite (anyOf (ofItem (rowOf rs i .next .0)) rs)
-  led i = rw (eq-eqb i i refl) refl
-
-  told : (i j : ℕ) → i ≢ j → breaks rs i j ≡ telling (rowOf rs j .item .0) (rowOf rs i)
-  told i j n = rw (ne-eqb i j n) refl
-
+  -- items above 0 and no pair that breaks: one ascending ring
   pub closed-if : ((r : Row) → List·Memᴰ r rs → 0 < r .item .0) → Unbroken rs → Closed rs
   closed-if above whole =
       record {
@@ -104,12 +105,12 @@ module _ (rs : List Row) where
       -- two leaves: the second's item is neither the first's nor in its gap
       clash : (i j : ℕ) → i ≢ j → i < length rs → j < length rs
           → (ofItem (rowOf rs j .item .0) (rowOf rs i) ≡ false) × (gapOf (rowOf rs j .item .0) (rowOf rs i) ≡ false)
-      clash i j n g h = neither _ _ (sym (told i j n) ∙ whole i j g h)
+      clash i j n g h = neither _ _ (sym (of-two i j _ _ n) ∙ whole i j g h)
 
       leading : (r : Row) → List·Memᴰ r rs → (s : Row) × List·Memᴰ s rs × (s .item .0 ≡ r .next .0)
       leading r m =
           let p = place-of r rs m in
-          let s = any-of _ rs (no-opposite _ (sym (led (p .0)) ∙ whole (p .0) (p .0) (p .1) (p .1))) in
+          let s = any-of _ rs (no-opposite _ (sym (of-one (p .0) _ _) ∙ whole (p .0) (p .0) (p .1) (p .1))) in
           (s .0, s .1, sym (eqb-true _ _ (s .2)) ∙ ap (λ (x : Row). x .next .0) (p .2))
 
       -- the gap behind an item does not hold the item itself
@@ -129,14 +130,71 @@ module _ (rs : List Row) where
                 ∙ clash (p .0) (q .0) e (p .1) (q .1) .1)
           ]
 
+  -- and in a ring no pair breaks
   pub closed-unbroken : Closed rs → Unbroken rs
   closed-unbroken k i j g h =
       elim (ℕ-discrete i j) [
         | yes e ↦ (
             let s = k .leads (rowOf rs i) (row-in rs i g) in
-            ap (breaks rs i) (sym e) ∙ led i ∙ ap opposite (of-any _ (s .0) rs (s .1) (eq-eqb _ _ (sym (s .2)))))
+            ap (breaks rs i) (sym e) ∙ of-one i _ _ ∙ ap opposite (of-any _ (s .0) rs (s .1) (eq-eqb _ _ (sym (s .2)))))
         | no e ↦ (
-            told i j e
+            of-two i j _ _ e
             ∙ ap₂ either (ne-eqb _ _ (distinct-apart rs i j (k .distinct) e g h))
             (k .clear (rowOf rs i) (rowOf rs j) (row-in rs i g) (row-in rs j h)))
       ]
+
+  -- ── the first pair that breaks ──
+
+  -- leaf i breaks with any
+  abbrev any-broken : (i : ℕ) → Bool
+  any-broken i = ltb (breakOf rs i) (length rs)
+
+  -- a leaf that breaks with none, as one before the first that breaks with any
+  with-none : (i j : ℕ) → any-broken i ≡ false → j < length rs → breaks rs i j ≡ false
+  with-none i j e h =
+      first-none-before (breaks rs i) (length rs) (breakOf rs i) refl j (omega (arith, ltb-false (breakOf rs i) (length rs) e))
+
+  before-breaker : (i j : ℕ) → i < breaker rs → j < length rs → breaks rs i j ≡ false
+  before-breaker i j g h = with-none i j (first-none-before any-broken (length rs) (breaker rs) refl i g) h
+
+  -- where there is no first pair none breaks, and where none breaks there is no first pair
+  pub no-break : firstBreak rs ≡ noBreak → Unbroken rs
+  unfolding firstBreak
+  no-break e = by-test (ltb (breaker rs) (length rs)) refl e
+    where
+      by-test : (b : Bool) → ltb (breaker rs) (length rs) ≡ b → pick b (breakAt (breaker rs) (breakOf rs (breaker rs))) noBreak ≡ noBreak
+          → Unbroken rs
+      by-test true t e = absurd (true≢false (cc))
+      by-test false t e = λ i j g h. before-breaker i j (omega (arith, ltb-false (breaker rs) (length rs) t)) h
+
+  pub unbroken-first : Unbroken rs → firstBreak rs ≡ noBreak
+  unfolding firstBreak
+  unbroken-first whole =
+      let all : breaker rs ≡ length rs =
+      first-nowhere any-broken (length rs)
+      (λ i g.
+      let e = first-nowhere (breaks rs i) (length rs) (λ j h. whole i j g h) in
+      le-ltb (breakOf rs i) (length rs) (omega (arith, e))) in
+      rw (le-ltb (breaker rs) (length rs) (omega (arith, all))) refl
+
+  -- and the first pair is the first
+  pub broken-first : (i j : ℕ) → firstBreak rs ≡ breakAt i j → BreaksFirst rs i j
+  unfolding firstBreak
+  broken-first i j e = by-test (ltb (breaker rs) (length rs)) refl e
+    where
+      by-test : (b : Bool) → ltb (breaker rs) (length rs) ≡ b
+          → pick b (breakAt (breaker rs) (breakOf rs (breaker rs))) noBreak ≡ breakAt i j → BreaksFirst rs i j
+      by-test true t e =
+          let first : breaker rs ≡ i = cc in
+          let second : breakOf rs i ≡ j = ap (breakOf rs) (sym first) ∙ cc in
+          let within : i < length rs = omega (arith, ltb-true (breaker rs) (length rs) t) in
+          let within-it : j < length rs =
+          omega (arith, ltb-true (breakOf rs i) (length rs) (first-passes any-broken (length rs) i first within)) in
+          record {
+            in-first = within;
+            in-second = within-it;
+            broken = first-passes (breaks rs i) (length rs) j second within-it;
+            none-nearer = first-none-before (breaks rs i) (length rs) j second;
+            none-earlier = λ a b g h. before-breaker a b (omega arith) h;
+          }
+      by-test false t e = absurd (true≢false (cc))

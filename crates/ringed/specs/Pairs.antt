@@ -1,6 +1,6 @@
 -- The test that leaves are one ascending ring, pair by pair: which pairs break it, and the first that does. Places count from 0.
 use mathlib.Core.Path.{_≡_}
-use mathlib.Core.Bool.{Bool, false}
+use mathlib.Core.Bool.{Bool, true, false}
 use mathlib.Core.List.{List, [], _∷_}
 use Prim.Native.Nat.{ℕ, _<_}
 use lib.Dec.{eqb, ltb}
@@ -48,3 +48,11 @@ pub data Break : Type 0 where
 
 unfoldable pub firstBreak : List Row → Break
 firstBreak rs = pick (ltb (breaker rs) (length rs)) (breakAt (breaker rs) (breakOf rs (breaker rs))) noBreak
+
+-- what that comes to: leaf i breaks with leaf j, with none before that, and no leaf before it breaks with any
+pub record BreaksFirst (rs : List Row) (i j : ℕ) : Type 0 where
+  pub in-first : i < length rs
+  pub in-second : j < length rs
+  pub broken : breaks rs i j ≡ true
+  pub none-nearer : (b : ℕ) → b < j → breaks rs i b ≡ false
+  pub none-earlier : (a b : ℕ) → a < i → b < length rs → breaks rs a b ≡ false
