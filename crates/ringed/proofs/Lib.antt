@@ -1,4 +1,3 @@
 pub mod Ringed
 pub mod Pairs
-pub mod InMemory
 pub mod ByHand
