@@ -41,11 +41,12 @@ breakOf rs i = firstFrom (breaks rs i) (length rs) 0
 abbrev pub breaker : List Row → ℕ
 breaker rs = firstFrom (λ i. ltb (breakOf rs i) (length rs)) (length rs) 0
 
--- the first of two places, by the first of the two and then by the second, or no break
+-- the places of two leaves, of which the first breaks with the second, or no break
 pub data Break : Type 0 where
   breakAt : (i j : ℕ) → Break
   noBreak : Break
 
+-- the first pair that breaks, by its first place and then by its second
 unfoldable pub firstBreak : List Row → Break
 firstBreak rs = pick (ltb (breaker rs) (length rs)) (breakAt (breaker rs) (breakOf rs (breaker rs))) noBreak
 
