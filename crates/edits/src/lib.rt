@@ -104,7 +104,7 @@ fn at_one(i: usize, a: Edit, root: Edit) -> Change
 }
 
 // A slot that is not there.
-fn no_place(i: usize) -> Change
+pub fn no_place(i: usize) -> Change
     ensures { λ r. ⌜ r ≡ noPlace i ⌝ }
 {
     let none = no_edit();

@@ -68,7 +68,7 @@ returns-2 c =
     let text = textOf (rowsFrom (a .leaves .now) (a .k) 0) in (
       sym (le-leb (97 * a .k) (length (a .space .now)) (k .inv .2)),
       k .inv .3 .here ∙ ap (λ (n : ℕ). textOf (rowsFrom (a .leaves .now) n 0) ++ drop (97 * n) (a .space .now)) all
-      ∙ sym (written-fits text (a .space .now) (97 * a .k) (text-long (a .leaves .now) (a .k) 0) (k .inv .2)),
+          ∙ sym (written-fits text (a .space .now) (97 * a .k) (text-long (a .leaves .now) (a .k) 0) (k .inv .2)),
     )
 
 pub save-spec : {M : Type 1} → statement M
