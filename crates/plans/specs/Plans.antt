@@ -104,7 +104,7 @@ module _ (D : List ℕ → Dig) (leaves nodes : List ℕ) (k : ℕ) (c : Revisio
   -- another record for A's leaf
   unfoldable pub rewritten : Script → Item → Values → Record → Plan
   rewritten s A v new =
-      let i = ownPlace leaves k (c .0) (A .0) in
+      let i = ownPlace leaves k (A .0) in
       let here = rowAt leaves i in
       let row = leafOfItems (here .item) (here .next) new in
       plainPlan s A v here (onePlace D nodes i (rowDigest D row)) row noRow k (raisedCounter c)
@@ -121,7 +121,7 @@ module _ (D : List ℕ → Dig) (leaves nodes : List ℕ) (k : ℕ) (c : Revisio
   -- A's leaf and the last one change places
   unfoldable pub swapping : Item → Plan
   swapping A =
-      let i = ownPlace leaves k (c .0) (A .0) in
+      let i = ownPlace leaves k (A .0) in
       let j = k - 1 in
       plainPlan Swapping A noValues (rowAt leaves i)
       (twoPlaces D nodes i j (nodeAt nodes (slotCount + j)) (nodeAt nodes (slotCount + i)))
@@ -138,7 +138,7 @@ module _ (D : List ℕ → Dig) (leaves nodes : List ℕ) (k : ℕ) (c : Revisio
       placePlan D Dropping A here past (twoPlaces D nodes i j (rowDigest D left) nought) left noRow j c
 
   unfoldable pub removing : Item → Plan
-  removing A = pick (leb k 1) (emptying D leaves nodes c A) (pick (eqb (ownPlace leaves k (c .0) (A .0)) (k - 1)) (dropping A) (swapping A))
+  removing A = pick (leb k 1) (emptying D leaves nodes c A) (pick (eqb (ownPlace leaves k (A .0)) (k - 1)) (dropping A) (swapping A))
 
   -- the plan of a wish
   abbrev pub planFor : Wish → Plan

@@ -22,8 +22,8 @@ abbrev pub firstTrue : (n : ℕ) → List Bool → ℕ
 firstTrue n [] = 0
 firstTrue n (t ∷ l) = pick t n (firstTrue (n + 1) l)
 
--- by k leaves of memory and the counter c
-module _ (leaves : List ℕ) (k c : ℕ) where
+-- by k leaves of memory
+module _ (leaves : List ℕ) (k : ℕ) where
   -- the place of A's own leaf; whether A is listed; its record
   abbrev pub ownPlace : (A : ℕ) → ℕ
   ownPlace A = seek (ofItem A) leaves k 0
@@ -34,18 +34,26 @@ module _ (leaves : List ℕ) (k c : ℕ) where
   abbrev pub entryOf : (A : ℕ) → Record
   entryOf A = rowAt leaves (ownPlace A) .entry
 
-  abbrev pub atTop : Bool
+-- and by the counter c
+module _ (leaves : List ℕ) (k c : ℕ) where
+  abbrev listed : (A : ℕ) → Bool
+  listed A = isListed leaves k A
+
+  abbrev recorded : (A : ℕ) → Bool
+  recorded A = opposite (blank (entryOf leaves k A))
+
+  abbrev atTop : Bool
   atTop = eqb c top
 
   -- one test for each word, in their order; false where the word does not apply to the wish
   abbrev pub tests : Wish → List Bool
-  tests (Insert A) = eqb (A .0) 0 ∷ false ∷ isListed (A .0) ∷ false ∷ false ∷ false ∷ leb slotCount k ∷ atTop ∷ []
+  tests (Insert A) = eqb (A .0) 0 ∷ false ∷ listed (A .0) ∷ false ∷ false ∷ false ∷ leb slotCount k ∷ atTop ∷ []
   tests (Remove A) =
-      eqb (A .0) 0 ∷ false ∷ false ∷ opposite (isListed (A .0)) ∷ opposite (blank (entryOf (A .0))) ∷ false ∷ false ∷ atTop ∷ []
+      eqb (A .0) 0 ∷ false ∷ false ∷ opposite (listed (A .0)) ∷ recorded (A .0) ∷ false ∷ false ∷ atTop ∷ []
   tests (Set A v) =
-      eqb (A .0) 0 ∷ sillyMass (v .mass .0) ∷ false ∷ opposite (isListed (A .0)) ∷ false ∷ false ∷ false ∷ atTop ∷ []
+      eqb (A .0) 0 ∷ sillyMass (v .mass .0) ∷ false ∷ opposite (listed (A .0)) ∷ false ∷ false ∷ false ∷ atTop ∷ []
   tests (Clear A) =
-      eqb (A .0) 0 ∷ false ∷ false ∷ opposite (isListed (A .0)) ∷ false ∷ blank (entryOf (A .0)) ∷ false ∷ atTop ∷ []
+      eqb (A .0) 0 ∷ false ∷ false ∷ opposite (listed (A .0)) ∷ false ∷ blank (entryOf leaves k (A .0)) ∷ false ∷ atTop ∷ []
   tests (Ask q) = eqb (q .0) 0 ∷ false ∷ false ∷ false ∷ false ∷ false ∷ false ∷ false ∷ []
 
   unfoldable pub wordFor : Wish → ℕ

@@ -14,11 +14,15 @@ use rows::Row;
 use rows::Search;
 use slots::SLOTS;
 ghost use mathlib.Core.Path.{_≡_};
-ghost use Prim.Native.Nat.{_-_, _≤_};
+ghost use mathlib.Core.List.{List};
+ghost use Prim.Native.Nat.{ℕ, _-_, _≤_};
+ghost use lib.Dec.{eqb};
+ghost use Rattle.seqs.specs.Choose.{pick};
 ghost use Rattle.sha256.specs.Hash.{sha256};
 ghost use Rattle.paper.specs.Strings.{emptyRecord};
 ghost use Rattle.slots.specs.Nodes.{slotCount};
-ghost use Rattle.plans.specs.Words.{heldOf, wordFor};
+ghost use Rattle.plans.specs.declared.Wish.the-variants.{Insert, Remove, Set, Clear, Ask};
+ghost use Rattle.plans.specs.Words.{heldOf, ownPlace, wordFor};
 ghost use Rattle.plans.specs.Plans.{noValues, noRow, raisedCounter, recordAfter, rowDigest, leafOfItems, plainPlan, placePlan, noPlan, asked, rewritten, beginning, inserting, emptying, swapping, dropping, removing, planFor, begunFor};
 
 // A wish: an item listed, taken out, given a record, cleared of it, or asked about.
@@ -367,4 +371,211 @@ fn before(k: usize) -> usize
         return 0;
     }
     k - 1
+}
+
+// ── the words by which the tablet refuses ──
+
+fn insert_word(a: Item, k: usize, c: Revision, leaves: &[u64]) -> u8
+    ensures { λ r. ⌜ r ≡ wordFor (now (leaves .entry)) k (c .0) (Insert a) ⌝ }
+{
+    if a.0 == 0 {
+        return 1;
+    }
+    if rows::find(leaves, k, Search::Own, a) < k {
+        return 3;
+    }
+    if SLOTS <= k {
+        return 7;
+    }
+    if c.0 == TOP {
+        return 8;
+    }
+    0
+}
+
+fn remove_word(a: Item, k: usize, c: Revision, leaves: &[u64]) -> u8
+    ensures { λ r. ⌜ r ≡ wordFor (now (leaves .entry)) k (c .0) (Remove a) ⌝ }
+{
+    if a.0 == 0 {
+        return 1;
+    }
+    let i = rows::find(leaves, k, Search::Own, a);
+    if k <= i {
+        return 4;
+    }
+    let r = rows::row_at(leaves, i);
+    let e = r.entry;
+    if !records::is_blank(e) {
+        return 5;
+    }
+    if c.0 == TOP {
+        return 8;
+    }
+    0
+}
+
+fn set_word(a: Item, v: Values, k: usize, c: Revision, leaves: &[u64]) -> u8
+    ensures { λ r. ⌜ r ≡ wordFor (now (leaves .entry)) k (c .0) (Set a v) ⌝ }
+{
+    if a.0 == 0 {
+        return 1;
+    }
+    let mass = v.mass;
+    if records::is_silly(mass) {
+        return 2;
+    }
+    if k <= rows::find(leaves, k, Search::Own, a) {
+        return 4;
+    }
+    if c.0 == TOP {
+        return 8;
+    }
+    0
+}
+
+fn clear_word(a: Item, k: usize, c: Revision, leaves: &[u64]) -> u8
+    ensures { λ r. ⌜ r ≡ wordFor (now (leaves .entry)) k (c .0) (Clear a) ⌝ }
+{
+    if a.0 == 0 {
+        return 1;
+    }
+    let i = rows::find(leaves, k, Search::Own, a);
+    if k <= i {
+        return 4;
+    }
+    let r = rows::row_at(leaves, i);
+    let e = r.entry;
+    if records::is_blank(e) {
+        return 6;
+    }
+    if c.0 == TOP {
+        return 8;
+    }
+    0
+}
+
+fn ask_word(q: Item) -> u8
+    ensures { λ r. ⌜ ((l : List ℕ) (k c : ℕ) → r ≡ wordFor l k c (Ask q)) ⌝ }
+{
+    if q.0 == 0 {
+        return 1;
+    }
+    0
+}
+
+// ── a wish begun ──
+
+// Refused by the tablet itself.
+fn refused(word: u8) -> Begun
+    ensures { λ r. ⌜ r ≡ record { word = word; plan = noPlan } ⌝ }
+{
+    let v = no_values();
+    let none = no_row();
+    let e = edits::no_place(0);
+    let plan = plain(
+        Script::AskOfNone,
+        Item(0),
+        v,
+        none,
+        e,
+        none,
+        none,
+        0,
+        Revision(0),
+    );
+    Begun { word, plan }
+}
+
+fn begin_insert(a: Item, k: usize, c: Revision, leaves: &[u64], nodes: &[u8]) -> Begun
+    requires { ⌜ k ≤ slotCount ⌝ }
+    ensures { λ r. ⌜ r ≡ begunFor sha256 (now (leaves .entry)) (now (nodes .entry)) k c (Insert a) ⌝ }
+{
+    let word = insert_word(a, k, c, leaves);
+    if word != 0 {
+        return refused(word);
+    }
+    if k == 0 {
+        let plan = first_plan(a, c, nodes);
+        return Begun { word, plan };
+    }
+    let plan = insert_plan(a, k, c, leaves, nodes);
+    Begun { word, plan }
+}
+
+// Where more than one item is listed: the last leaf goes at once, and any other changes places with it first.
+fn remove_plan(a: Item, k: usize, c: Revision, leaves: &[u64], nodes: &[u8]) -> Plan
+    requires { ⌜ (1 ≤ k) × (k ≤ slotCount) ⌝ }
+    ensures { λ r. ⌜ r ≡ pick (eqb (ownPlace (now (leaves .entry)) k (a .0)) (k - 1))
+        (dropping sha256 (now (leaves .entry)) (now (nodes .entry)) k c a) (swapping sha256 (now (leaves .entry)) (now (nodes .entry)) k c a) ⌝ }
+{
+    if rows::find(leaves, k, Search::Own, a) == k - 1 {
+        return drop_plan(a, k, c, leaves, nodes);
+    }
+    swap_plan(a, k, c, leaves, nodes)
+}
+
+fn begin_remove(a: Item, k: usize, c: Revision, leaves: &[u64], nodes: &[u8]) -> Begun
+    requires { ⌜ k ≤ slotCount ⌝ }
+    ensures { λ r. ⌜ r ≡ begunFor sha256 (now (leaves .entry)) (now (nodes .entry)) k c (Remove a) ⌝ }
+{
+    let word = remove_word(a, k, c, leaves);
+    if word != 0 {
+        return refused(word);
+    }
+    if k <= 1 {
+        let plan = empty_plan(a, c, leaves, nodes);
+        return Begun { word, plan };
+    }
+    let plan = remove_plan(a, k, c, leaves, nodes);
+    Begun { word, plan }
+}
+
+fn begin_set(a: Item, v: Values, k: usize, c: Revision, leaves: &[u64], nodes: &[u8]) -> Begun
+    ensures { λ r. ⌜ r ≡ begunFor sha256 (now (leaves .entry)) (now (nodes .entry)) k c (Set a v) ⌝ }
+{
+    let word = set_word(a, v, k, c, leaves);
+    if word != 0 {
+        return refused(word);
+    }
+    let new = record_after(c, v);
+    let plan = rewrite_plan(Script::Setting, a, v, new, k, c, leaves, nodes);
+    Begun { word, plan }
+}
+
+fn begin_clear(a: Item, k: usize, c: Revision, leaves: &[u64], nodes: &[u8]) -> Begun
+    ensures { λ r. ⌜ r ≡ begunFor sha256 (now (leaves .entry)) (now (nodes .entry)) k c (Clear a) ⌝ }
+{
+    let word = clear_word(a, k, c, leaves);
+    if word != 0 {
+        return refused(word);
+    }
+    let v = no_values();
+    let new = empty_record();
+    let plan = rewrite_plan(Script::Clearing, a, v, new, k, c, leaves, nodes);
+    Begun { word, plan }
+}
+
+fn begin_ask(q: Item, k: usize, c: Revision, leaves: &[u64], nodes: &[u8]) -> Begun
+    ensures { λ r. ⌜ r ≡ begunFor sha256 (now (leaves .entry)) (now (nodes .entry)) k c (Ask q) ⌝ }
+{
+    let word = ask_word(q);
+    if word != 0 {
+        return refused(word);
+    }
+    let plan = ask_plan(q, k, c, leaves, nodes);
+    Begun { word, plan }
+}
+
+// A wish, in a memory that holds so many leaves, with the counter that the module gave last.
+pub fn begin(wish: Wish, count: usize, counter: Revision, leaves: &[u64], nodes: &[u8]) -> Begun
+    ensures { λ r. ⌜ r ≡ begunFor sha256 (now (leaves .entry)) (now (nodes .entry)) (heldOf count) counter wish ⌝ }
+{
+    let k = held(count);
+    match wish {
+        Wish::Insert(a) => begin_insert(a, k, counter, leaves, nodes),
+        Wish::Remove(a) => begin_remove(a, k, counter, leaves, nodes),
+        Wish::Set(a, v) => begin_set(a, v, k, counter, leaves, nodes),
+        Wish::Clear(a) => begin_clear(a, k, counter, leaves, nodes),
+        Wish::Ask(q) => begin_ask(q, k, counter, leaves, nodes),
+    }
 }
