@@ -47,6 +47,32 @@ pub top-is : (n v : ℕ) → OnLevel n v → ancestor n v ≡ 1
 top-is zero v r = omega (arith, r .from, r .till)
 top-is (suc n) v r = top-is n (v / 2) (level-up n v r)
 
+below : (x y : ℕ) → x ≤ y → x ≢ y → x < y
+below x y h n = omega (arith, n)
+
+-- slots u and v, u on the left: the halves of the node at their meeting, and the way from there to the root
+pub record Halves (u v : ℕ) : Type 0 where
+  pub parted : Meets 9 u v
+  pub left-half : ancestor (meeting 9 u v) u ≡ 2 * ancestor (suc (meeting 9 u v)) u
+  pub right-half : ancestor (meeting 9 u v) v ≡ 2 * ancestor (suc (meeting 9 u v)) u + 1
+  pub to-root : ancestor (9 - meeting 9 u v) (ancestor (suc (meeting 9 u v)) u) ≡ 1
+
+pub halves-of : (u v : ℕ) → OnLevel 10 u → OnLevel 10 v → u < v → Halves u v
+halves-of u v ru rv less =
+    let k = meeting 9 u v in
+    let t : Meets 9 u v = meets 9 u v (λ e. omega arith) (top-is 10 u ru ∙ sym (top-is 10 v rv)) in
+    let p = ancestor (suc k) u in
+    let a : ancestor k u / 2 ≡ p = sym (ancestor-suc k u) in
+    let b : ancestor k v / 2 ≡ p = sym (ancestor-suc k v) ∙ sym (t .above) in
+    let ne : ancestor k u < ancestor k v = below _ _ (ancestor-le k u v (omega arith)) (t .apart) in
+    let ten : 9 - k + suc k ≡ 10 = omega (arith, t .low) in
+    record {
+      parted = t;
+      left-half = omega (arith, a, b, ne);
+      right-half = omega (arith, a, b, ne);
+      to-root = ancestor-add (9 - k) (suc k) u ∙ ap (λ (i : ℕ). ancestor i u) ten ∙ top-is 10 u ru;
+    }
+
 module _ (D : List ℕ → Dig) (f g : ℕ → Tree) (u v : ℕ) (ru : OnLevel 10 u) (rv : OnLevel 10 v) (less : u < v)
     (same : (w : ℕ) → w ≢ u → w ≢ v → f w ≡ g w) where
   -- with the ways of f, what g has in both slots rises to the root of g's tree
@@ -56,34 +82,24 @@ module _ (D : List ℕ → Dig) (f g : ℕ → Tree) (u v : ℕ) (ru : OnLevel 1
   unfolding grove
   fork-rises =
       let k = meeting 9 u v in
-      let t : Meets 9 u v = meets 9 u v (λ e. omega arith) (top-is 10 u ru ∙ sym (top-is 10 v rv)) in
+      let q = halves-of u v ru rv less in
+      let t = q .parted in
       let p = ancestor (suc k) u in
-      let a : ancestor k u / 2 ≡ p = sym (ancestor-suc k u) in
-      let b : ancestor k v / 2 ≡ p = sym (ancestor-suc k v) ∙ sym (t .above) in
-      let le = ancestor-le k u v (omega arith) in
-      let ne : ancestor k u < ancestor k v = below _ _ le (t .apart) in
-      let l : ancestor k u ≡ 2 * p = omega (arith, a, b, ne) in
-      let r : ancestor k v ≡ 2 * p + 1 = omega (arith, a, b, ne) in
       let k0 : k + 0 ≡ k = omega arith in
       let left-way : wayUp f k 0 u ≡ wayUp g k 0 u =
-      way-same f g k 0 u (λ w n q. same w n (λ e. t .apart (sym q ∙ ap (ancestor k) e))) in
+      way-same f g k 0 u (λ w n e. same w n (λ i. t .apart (sym e ∙ ap (ancestor k) i))) in
       let right-way : wayUp f k 0 v ≡ wayUp g k 0 v =
-      way-same f g k 0 v (λ w n q. same w (λ e. t .apart (ap (ancestor k) (sym e) ∙ q)) n) in
+      way-same f g k 0 v (λ w n e. same w (λ i. t .apart (ap (ancestor k) (sym i) ∙ e)) n) in
       let above-way : wayUp f (9 - k) (suc k) p ≡ wayUp g (9 - k) (suc k) p =
       way-same f g (9 - k) (suc k) p
-      (λ w n q. same w (λ e. n (ap (ancestor (suc k)) e)) (λ e. n (ap (ancestor (suc k)) e ∙ sym (t .above)))) in
+      (λ w n _. same w (λ e. n (ap (ancestor (suc k)) e)) (λ e. n (ap (ancestor (suc k)) e ∙ sym (t .above)))) in
       let left-up : rise D (wayUp f k 0 u) (hashOf D (g u)) ≡ hashOf D (treeAt g k (2 * p)) =
       ap (λ (q : Way). rise D q (hashOf D (g u))) left-way ∙ rises g D k 0 u
-      ∙ ap₂ (λ (i j : ℕ). hashOf D (treeAt g i j)) k0 l in
+      ∙ ap₂ (λ (i j : ℕ). hashOf D (treeAt g i j)) k0 (q .left-half) in
       let right-up : rise D (wayUp f k 0 v) (hashOf D (g v)) ≡ hashOf D (treeAt g k (2 * p + 1)) =
       ap (λ (q : Way). rise D q (hashOf D (g v))) right-way ∙ rises g D k 0 v
-      ∙ ap₂ (λ (i j : ℕ). hashOf D (treeAt g i j)) k0 r in
+      ∙ ap₂ (λ (i j : ℕ). hashOf D (treeAt g i j)) k0 (q .right-half) in
       let ten : 9 - k + suc k ≡ 10 = omega (arith, t .low) in
-      let root : ancestor (9 - k) p ≡ 1 =
-      ancestor-add (9 - k) (suc k) u ∙ ap (λ (i : ℕ). ancestor i u) ten ∙ top-is 10 u ru in
       ap₂ (λ (x y : Dig). rise D (wayUp f (9 - k) (suc k) p) (H D x y)) left-up right-up
       ∙ ap (λ (q : Way). rise D q (hashOf D (treeAt g (suc k) p))) above-way ∙ rises g D (9 - k) (suc k) p
-      ∙ ap₂ (λ (i j : ℕ). hashOf D (treeAt g i j)) ten root
-    where
-      below : (x y : ℕ) → x ≤ y → x ≢ y → x < y
-      below x y h n = omega (arith, n)
+      ∙ ap₂ (λ (i j : ℕ). hashOf D (treeAt g i j)) ten (q .to-root)
