@@ -15,13 +15,13 @@ use Rattle.rows.specs.declared.Row.{Row}
 use Rattle.rows.specs.Rows.{rowAt, seek, leadingTo, gapOf, telling}
 use Rattle.edits.specs.declared.Change.{Change}
 use Rattle.edits.specs.Changes.{noPlace, stillPlace, onePlace, twoPlaces}
-use Rattle.plans.specs.declared.Wish.{Wish}
-use Rattle.plans.specs.declared.Wish.the-variants.{Insert, Remove, Set, Clear, Ask}
+use Rattle.wishes.specs.declared.Wish.{Wish}
+use Rattle.wishes.specs.declared.Wish.the-variants.{Insert, Remove, Set, Clear, Ask}
 use Rattle.plans.specs.declared.Script.{Script}
 use Rattle.plans.specs.declared.Script.the-variants.{AskOfNone, Asking, Setting, Clearing, Beginning, Inserting, Swapping, Dropping, Emptying}
 use Rattle.plans.specs.declared.Plan.{Plan}
 use Rattle.plans.specs.declared.Begun.{Begun}
-use Rattle.plans.specs.Words.{ownPlace, wordFor, heldOf}
+use Rattle.wishes.specs.Words.{ownPlace, wordFor}
 
 -- ── small values ──
 

@@ -1,5 +1,5 @@
-// What the tablet works out for a wish before its first line goes out: whether it has to refuse the wish itself, which lines the wish
-// takes, what changes in the tree, and what memory is to hold once the module has accepted. Memory is only looked at here, and of it
+// What the tablet works out for a wish before its first line goes out: which lines the wish takes, what changes in the tree, and what
+// memory is to hold once the module has accepted. Memory is only looked at here, and of it
 // no more than 1,024 leaves.
 use edits::Change;
 use paper::Item;
@@ -13,26 +13,15 @@ use paper::Values;
 use rows::Row;
 use rows::Search;
 use slots::SLOTS;
+use wishes::Wish;
 ghost use mathlib.Core.Path.{_≡_};
-ghost use mathlib.Core.List.{List};
-ghost use Prim.Native.Nat.{ℕ, _-_, _≤_};
-ghost use lib.Dec.{eqb};
-ghost use Rattle.seqs.specs.Choose.{pick};
+ghost use Prim.Native.Nat.{_-_, _≤_};
 ghost use Rattle.sha256.specs.Hash.{sha256};
 ghost use Rattle.paper.specs.Strings.{emptyRecord};
 ghost use Rattle.slots.specs.Nodes.{slotCount};
-ghost use Rattle.plans.specs.declared.Wish.the-variants.{Insert, Remove, Set, Clear, Ask};
-ghost use Rattle.plans.specs.Words.{heldOf, ownPlace, wordFor};
+ghost use Rattle.wishes.specs.declared.Wish.the-variants.{Insert, Set, Clear};
+ghost use Rattle.wishes.specs.Words.{heldOf};
 ghost use Rattle.plans.specs.Plans.{noValues, noRow, raisedCounter, recordAfter, rowDigest, leafOfItems, plainPlan, placePlan, noPlan, asked, rewritten, beginning, inserting, emptying, swapping, dropping, removing, planFor, begunFor};
-
-// A wish: an item listed, taken out, given a record, cleared of it, or asked about.
-pub enum Wish {
-    Insert(Item),
-    Remove(Item),
-    Set(Item, Values),
-    Clear(Item),
-    Ask(Item),
-}
 
 // Which lines a wish takes: a question where nothing is listed, any other question; a record set, or cleared; the first item listed,
 // another one; two leaves exchanged, the last leaf taken out; the only item taken out.
@@ -153,17 +142,6 @@ fn record_after(c: Revision, v: Values) -> Record
         offset,
         rigging,
     }
-}
-
-// The leaves that there are slots for.
-fn held(count: usize) -> usize
-    ensures { λ r. ⌜ r ≡ heldOf count ⌝ }
-    ensures { λ r. ⌜ r ≤ slotCount ⌝ }
-{
-    if SLOTS < count {
-        return SLOTS;
-    }
-    count
 }
 
 // ── plans ──
@@ -290,7 +268,7 @@ fn first_plan(a: Item, c: Revision, nodes: &[u8]) -> Plan
 }
 
 // An item more, behind the leaf whose gap holds it.
-fn insert_plan(a: Item, k: usize, c: Revision, leaves: &[u64], nodes: &[u8]) -> Plan
+fn more_plan(a: Item, k: usize, c: Revision, leaves: &[u64], nodes: &[u8]) -> Plan
     requires { ⌜ k ≤ slotCount ⌝ }
     ensures { λ r. ⌜ r ≡ inserting sha256 (now (leaves .entry)) (now (nodes .entry)) k c a ⌝ }
 {
@@ -349,7 +327,7 @@ fn swap_plan(a: Item, k: usize, c: Revision, leaves: &[u64], nodes: &[u8]) -> Pl
 pub fn drop_plan(a: Item, count: usize, c: Revision, leaves: &[u64], nodes: &[u8]) -> Plan
     ensures { λ r. ⌜ r ≡ dropping sha256 (now (leaves .entry)) (now (nodes .entry)) (heldOf count) c a ⌝ }
 {
-    let k = held(count);
+    let k = wishes::held(count);
     let none = no_row();
     let i = rows::find(leaves, k, Search::Leading, a);
     let j = before(k);
@@ -373,94 +351,56 @@ fn before(k: usize) -> usize
     k - 1
 }
 
-// ── the words by which the tablet refuses ──
-
-fn insert_word(a: Item, k: usize, c: Revision, leaves: &[u64]) -> u8
-    ensures { λ r. ⌜ r ≡ wordFor (now (leaves .entry)) k (c .0) (Insert a) ⌝ }
+// The only item goes; else the last leaf goes at once, and any other changes places with it first.
+fn remove_plan(a: Item, k: usize, c: Revision, leaves: &[u64], nodes: &[u8]) -> Plan
+    requires { ⌜ k ≤ slotCount ⌝ }
+    ensures { λ r. ⌜ r ≡ removing sha256 (now (leaves .entry)) (now (nodes .entry)) k c a ⌝ }
 {
-    if a.0 == 0 {
-        return 1;
+    if k <= 1 {
+        return empty_plan(a, c, leaves, nodes);
     }
-    if rows::find(leaves, k, Search::Own, a) < k {
-        return 3;
+    if rows::find(leaves, k, Search::Own, a) == k - 1 {
+        return drop_plan(a, k, c, leaves, nodes);
     }
-    if SLOTS <= k {
-        return 7;
-    }
-    if c.0 == TOP {
-        return 8;
-    }
-    0
+    swap_plan(a, k, c, leaves, nodes)
 }
 
-fn remove_word(a: Item, k: usize, c: Revision, leaves: &[u64]) -> u8
-    ensures { λ r. ⌜ r ≡ wordFor (now (leaves .entry)) k (c .0) (Remove a) ⌝ }
+fn insert_plan(a: Item, k: usize, c: Revision, leaves: &[u64], nodes: &[u8]) -> Plan
+    requires { ⌜ k ≤ slotCount ⌝ }
+    ensures { λ r. ⌜ r ≡ planFor sha256 (now (leaves .entry)) (now (nodes .entry)) k c (Insert a) ⌝ }
 {
-    if a.0 == 0 {
-        return 1;
+    if k == 0 {
+        return first_plan(a, c, nodes);
     }
-    let i = rows::find(leaves, k, Search::Own, a);
-    if k <= i {
-        return 4;
-    }
-    let r = rows::row_at(leaves, i);
-    let e = r.entry;
-    if !records::is_blank(e) {
-        return 5;
-    }
-    if c.0 == TOP {
-        return 8;
-    }
-    0
+    more_plan(a, k, c, leaves, nodes)
 }
 
-fn set_word(a: Item, v: Values, k: usize, c: Revision, leaves: &[u64]) -> u8
-    ensures { λ r. ⌜ r ≡ wordFor (now (leaves .entry)) k (c .0) (Set a v) ⌝ }
+fn set_plan(a: Item, v: Values, k: usize, c: Revision, leaves: &[u64], nodes: &[u8]) -> Plan
+    ensures { λ r. ⌜ r ≡ planFor sha256 (now (leaves .entry)) (now (nodes .entry)) k c (Set a v) ⌝ }
 {
-    if a.0 == 0 {
-        return 1;
-    }
-    let mass = v.mass;
-    if records::is_silly(mass) {
-        return 2;
-    }
-    if k <= rows::find(leaves, k, Search::Own, a) {
-        return 4;
-    }
-    if c.0 == TOP {
-        return 8;
-    }
-    0
+    let new = record_after(c, v);
+    rewrite_plan(Script::Setting, a, v, new, k, c, leaves, nodes)
 }
 
-fn clear_word(a: Item, k: usize, c: Revision, leaves: &[u64]) -> u8
-    ensures { λ r. ⌜ r ≡ wordFor (now (leaves .entry)) k (c .0) (Clear a) ⌝ }
+fn clear_plan(a: Item, k: usize, c: Revision, leaves: &[u64], nodes: &[u8]) -> Plan
+    ensures { λ r. ⌜ r ≡ planFor sha256 (now (leaves .entry)) (now (nodes .entry)) k c (Clear a) ⌝ }
 {
-    if a.0 == 0 {
-        return 1;
-    }
-    let i = rows::find(leaves, k, Search::Own, a);
-    if k <= i {
-        return 4;
-    }
-    let r = rows::row_at(leaves, i);
-    let e = r.entry;
-    if records::is_blank(e) {
-        return 6;
-    }
-    if c.0 == TOP {
-        return 8;
-    }
-    0
+    let v = no_values();
+    let new = empty_record();
+    rewrite_plan(Script::Clearing, a, v, new, k, c, leaves, nodes)
 }
 
-fn ask_word(q: Item) -> u8
-    ensures { λ r. ⌜ ((l : List ℕ) (k c : ℕ) → r ≡ wordFor l k c (Ask q)) ⌝ }
+fn plan_for(wish: Wish, k: usize, c: Revision, leaves: &[u64], nodes: &[u8]) -> Plan
+    requires { ⌜ k ≤ slotCount ⌝ }
+    ensures { λ r. ⌜ r ≡ planFor sha256 (now (leaves .entry)) (now (nodes .entry)) k c wish ⌝ }
 {
-    if q.0 == 0 {
-        return 1;
+    match wish {
+        Wish::Insert(a) => insert_plan(a, k, c, leaves, nodes),
+        Wish::Remove(a) => remove_plan(a, k, c, leaves, nodes),
+        Wish::Set(a, v) => set_plan(a, v, k, c, leaves, nodes),
+        Wish::Clear(a) => clear_plan(a, k, c, leaves, nodes),
+        Wish::Ask(q) => ask_plan(q, k, c, leaves, nodes),
     }
-    0
 }
 
 // ── a wish begun ──
@@ -486,96 +426,15 @@ fn refused(word: u8) -> Begun
     Begun { word, plan }
 }
 
-fn begin_insert(a: Item, k: usize, c: Revision, leaves: &[u64], nodes: &[u8]) -> Begun
-    requires { ⌜ k ≤ slotCount ⌝ }
-    ensures { λ r. ⌜ r ≡ begunFor sha256 (now (leaves .entry)) (now (nodes .entry)) k c (Insert a) ⌝ }
-{
-    let word = insert_word(a, k, c, leaves);
-    if word != 0 {
-        return refused(word);
-    }
-    if k == 0 {
-        let plan = first_plan(a, c, nodes);
-        return Begun { word, plan };
-    }
-    let plan = insert_plan(a, k, c, leaves, nodes);
-    Begun { word, plan }
-}
-
-// Where more than one item is listed: the last leaf goes at once, and any other changes places with it first.
-fn remove_plan(a: Item, k: usize, c: Revision, leaves: &[u64], nodes: &[u8]) -> Plan
-    requires { ⌜ (1 ≤ k) × (k ≤ slotCount) ⌝ }
-    ensures { λ r. ⌜ r ≡ pick (eqb (ownPlace (now (leaves .entry)) k (a .0)) (k - 1))
-        (dropping sha256 (now (leaves .entry)) (now (nodes .entry)) k c a) (swapping sha256 (now (leaves .entry)) (now (nodes .entry)) k c a) ⌝ }
-{
-    if rows::find(leaves, k, Search::Own, a) == k - 1 {
-        return drop_plan(a, k, c, leaves, nodes);
-    }
-    swap_plan(a, k, c, leaves, nodes)
-}
-
-fn begin_remove(a: Item, k: usize, c: Revision, leaves: &[u64], nodes: &[u8]) -> Begun
-    requires { ⌜ k ≤ slotCount ⌝ }
-    ensures { λ r. ⌜ r ≡ begunFor sha256 (now (leaves .entry)) (now (nodes .entry)) k c (Remove a) ⌝ }
-{
-    let word = remove_word(a, k, c, leaves);
-    if word != 0 {
-        return refused(word);
-    }
-    if k <= 1 {
-        let plan = empty_plan(a, c, leaves, nodes);
-        return Begun { word, plan };
-    }
-    let plan = remove_plan(a, k, c, leaves, nodes);
-    Begun { word, plan }
-}
-
-fn begin_set(a: Item, v: Values, k: usize, c: Revision, leaves: &[u64], nodes: &[u8]) -> Begun
-    ensures { λ r. ⌜ r ≡ begunFor sha256 (now (leaves .entry)) (now (nodes .entry)) k c (Set a v) ⌝ }
-{
-    let word = set_word(a, v, k, c, leaves);
-    if word != 0 {
-        return refused(word);
-    }
-    let new = record_after(c, v);
-    let plan = rewrite_plan(Script::Setting, a, v, new, k, c, leaves, nodes);
-    Begun { word, plan }
-}
-
-fn begin_clear(a: Item, k: usize, c: Revision, leaves: &[u64], nodes: &[u8]) -> Begun
-    ensures { λ r. ⌜ r ≡ begunFor sha256 (now (leaves .entry)) (now (nodes .entry)) k c (Clear a) ⌝ }
-{
-    let word = clear_word(a, k, c, leaves);
-    if word != 0 {
-        return refused(word);
-    }
-    let v = no_values();
-    let new = empty_record();
-    let plan = rewrite_plan(Script::Clearing, a, v, new, k, c, leaves, nodes);
-    Begun { word, plan }
-}
-
-fn begin_ask(q: Item, k: usize, c: Revision, leaves: &[u64], nodes: &[u8]) -> Begun
-    ensures { λ r. ⌜ r ≡ begunFor sha256 (now (leaves .entry)) (now (nodes .entry)) k c (Ask q) ⌝ }
-{
-    let word = ask_word(q);
-    if word != 0 {
-        return refused(word);
-    }
-    let plan = ask_plan(q, k, c, leaves, nodes);
-    Begun { word, plan }
-}
-
 // A wish, in a memory that holds so many leaves, with the counter that the module gave last.
 pub fn begin(wish: Wish, count: usize, counter: Revision, leaves: &[u64], nodes: &[u8]) -> Begun
     ensures { λ r. ⌜ r ≡ begunFor sha256 (now (leaves .entry)) (now (nodes .entry)) (heldOf count) counter wish ⌝ }
 {
-    let k = held(count);
-    match wish {
-        Wish::Insert(a) => begin_insert(a, k, counter, leaves, nodes),
-        Wish::Remove(a) => begin_remove(a, k, counter, leaves, nodes),
-        Wish::Set(a, v) => begin_set(a, v, k, counter, leaves, nodes),
-        Wish::Clear(a) => begin_clear(a, k, counter, leaves, nodes),
-        Wish::Ask(q) => begin_ask(q, k, counter, leaves, nodes),
+    let word = wishes::word(wish, count, counter, leaves);
+    if word != 0 {
+        return refused(word);
     }
+    let k = wishes::held(count);
+    let plan = plan_for(wish, k, counter, leaves, nodes);
+    Begun { word, plan }
 }

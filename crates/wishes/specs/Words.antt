@@ -10,8 +10,8 @@ use Rattle.paper.specs.Strings.{blank, sillyMass}
 use Rattle.paper.specs.Refusals.{top}
 use Rattle.slots.specs.Nodes.{slotCount}
 use Rattle.rows.specs.Rows.{rowAt, seek, ofItem}
-use Rattle.plans.specs.declared.Wish.{Wish}
-use Rattle.plans.specs.declared.Wish.the-variants.{Insert, Remove, Set, Clear, Ask}
+use Rattle.wishes.specs.declared.Wish.{Wish}
+use Rattle.wishes.specs.declared.Wish.the-variants.{Insert, Remove, Set, Clear, Ask}
 
 -- of the leaves that memory is said to hold, those that there are slots for
 unfoldable pub heldOf : ℕ → ℕ

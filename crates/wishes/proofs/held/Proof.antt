@@ -2,9 +2,9 @@
 use mathlib.Core.Path.{sym}
 use native.Mathlib.Omega.{arith}
 use borrow.Author.Tests.{lt-ltb, le-ltb}
-use Rattle.plans.specs.Words.{heldOf}
-use Rattle.plans.proofs.held.Statement.{statement}
-use Rattle.plans.proofs.held.Tie as tie
+use Rattle.wishes.specs.Words.{heldOf}
+use Rattle.wishes.proofs.held.Statement.{statement}
+use Rattle.wishes.proofs.held.Tie as tie
 
 returns : tie.Need-returns
 unfolding heldOf

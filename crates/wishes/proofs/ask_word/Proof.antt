@@ -1,8 +1,8 @@
 -- By the one test.
 use borrow.Author.Tests.{eq-eqb, ne-eqb}
-use Rattle.plans.specs.Words.{wordFor}
-use Rattle.plans.proofs.ask_word.Statement.{statement}
-use Rattle.plans.proofs.ask_word.Tie as tie
+use Rattle.wishes.specs.Words.{wordFor}
+use Rattle.wishes.proofs.ask_word.Statement.{statement}
+use Rattle.wishes.proofs.ask_word.Tie as tie
 
 returns : tie.Need-returns
 unfolding wordFor

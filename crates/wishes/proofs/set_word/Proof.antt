@@ -1,11 +1,11 @@
 -- The tests in the order of the words.
 use mathlib.Core.Path.{sym, _∙_}
 use borrow.Author.Tests.{eq-eqb, ne-eqb}
-use Rattle.plans.specs.Words.{wordFor}
-use Rattle.plans.proofs.Words.{is-listed, not-listed}
+use Rattle.wishes.specs.Words.{wordFor}
+use Rattle.wishes.proofs.Words.{is-listed, not-listed}
 use borrow.Author.Needs.{needs}
-use Rattle.plans.proofs.set_word.Statement.{statement}
-use Rattle.plans.proofs.set_word.Tie as tie
+use Rattle.wishes.proofs.set_word.Statement.{statement}
+use Rattle.wishes.proofs.set_word.Tie as tie
 
 returns : tie.Need-returns
 unfolding wordFor
