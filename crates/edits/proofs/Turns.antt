@@ -1,12 +1,9 @@
 -- One turn of each loop over the levels.
 use mathlib.Core.Path.{_≡_, refl}
-use mathlib.Core.Bool.{Bool, true, false}
-use Prim.Native.Nat.{ℕ, zero, suc, _+_, _-_, _/_, _<_, _≤_}
+use Prim.Native.Nat.{ℕ, suc, _+_, _-_, _/_, _<_}
 use native.Mathlib.Omega.{arith}
 use borrow.Author.Tests.{eq-eqb, ne-eqb}
 use mathlib.Core.Logic.{_≢_}
-use lib.Dec.{eqb}
-use Rattle.seqs.specs.Choose.{pick}
 use Rattle.slots.specs.Nodes.{ancestor, meeting}
 
 left : (n i : ℕ) → i < n → n - i ≡ suc (n - (i + 1))
@@ -20,11 +17,3 @@ meeting-here n i u v h e = rw (left n i h, eq-eqb (u / 2) (v / 2) e) refl
 
 pub meeting-next : (n i u v : ℕ) → i < n → u / 2 ≢ v / 2 → meeting (n - i) u v ≡ suc (meeting (n - (i + 1)) (u / 2) (v / 2))
 meeting-next n i u v h e = rw (left n i h, ne-eqb (u / 2) (v / 2) e) refl
-
-pub meeting-most : (n u v : ℕ) → meeting n u v ≤ n
-meeting-most zero u v = omega arith
-meeting-most (suc n) u v = by-test (eqb (u / 2) (v / 2)) (meeting-most n (u / 2) (v / 2))
-  where
-    by-test : (b : Bool) → meeting n (u / 2) (v / 2) ≤ n → pick b 0 (suc (meeting n (u / 2) (v / 2))) ≤ suc n
-    by-test true h = omega arith
-    by-test false h = omega arith

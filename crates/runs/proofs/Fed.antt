@@ -18,7 +18,7 @@ use Rattle.runs.specs.Run.{Items, last, Issue, stepsFor, isIssued, meani
 use Rattle.runs.specs.Frames.{partsOf, frameOf, turnOf, turnsOf}
 use Rattle.runs.specs.Honest.{note}
 use Rattle.runs.specs.Liveness.{AllIssued, fed, HonestTurns}
-use Rattle.runs.proofs.Accepted.{NoneFails, formedAll, all-pass, judge-passed}
+use Rattle.runs.proofs.Accepted.{NoneFails, formedAll, all-pass, judge-passed, accepted-passed}
 use Rattle.paper.proofs.Early.{late, read-is}
 use Rattle.runs.proofs.Frames.{Sendable, reads-back, line-is-hex, line-is-frame}
 
@@ -77,6 +77,15 @@ module _ (D : List ℕ → Dig) where
     told-is n =
         told-as
         ∙ ap (toldBy D s (partsOf q .kind) q) (judge-passed late [] (needs D s q) (all-pass late (needs D s q) n))
+
+    -- of a line that was accepted, whatever let it pass
+    pub told-accepted : toldAt D w (turnOf q) .refusal ≡ 0
+        → toldAt D w (turnOf q) ≡ toldBy D s (partsOf q .kind) q (allPassed (formedAll late [] (needs D s q)))
+    told-accepted h =
+        told-as
+        ∙ ap (toldBy D s (partsOf q .kind) q)
+        (judge-passed late [] (needs D s q)
+        (accepted-passed D s (partsOf q .kind) q late (needs D s q) refl (sym (ap (λ (a : Told). a .refusal) told-as) ∙ h)))
 
     -- the line is accepted and honest, and the world after it is the one that its answer leaves
     pub leads-one : NoneFails (needs D s q) → AllIssued (carriedMemoranda D s q) (w .book)

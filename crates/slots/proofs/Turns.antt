@@ -1,17 +1,20 @@
 -- One turn of each loop over the levels, and what lies past the end of the memory.
 use mathlib.Core.Path.{_≡_, refl, ap, sym, _∙_}
+use mathlib.Core.Bool.{Bool, true, false}
 use mathlib.Core.List.{List, _++_, append-nil}
 use Prim.Native.Nat.{ℕ, zero, suc, _+_, _-_, _*_, _/_, _%_, _<_, _≤_}
 use native.Mathlib.Omega.{arith}
+use lib.Dec.{eqb}
 use lib.ListN.{length, replicate, length-replicate, drop-of-length-le}
 use lib.Seq.{drop-length}
+use Rattle.seqs.specs.Choose.{pick}
 use Rattle.seqs.specs.Bytes.{digestAt}
 use Rattle.seqs.specs.Over.{over, over-all, putAt, put-not, put-length}
 use Rattle.sha256.specs.Hash.{sha256}
 use Rattle.paper.specs.Strings.{Dig, H, parentForms, up}
 use Rattle.digests.specs.declared.Digest.{Digest}
 use Rattle.digests.specs.Worked.{worked}
-use Rattle.slots.specs.Nodes.{nodeAt, putNode, siblingAt, siblingsPut, summed, rehashed, climbed}
+use Rattle.slots.specs.Nodes.{meeting, nodeAt, putNode, siblingAt, siblingsPut, summed, rehashed, climbed}
 
 pub past-node : (m : List ℕ) (v : ℕ) → length m / 32 < v → replicate 32 0 ≡ nodeAt m v
 unfolding nodeAt digestAt
@@ -63,3 +66,12 @@ pub put-past : (m : List ℕ) (n u at : ℕ) (d : List ℕ) → length d < at �
 put-past m zero u at d h = refl
 put-past m (suc n) u at d h =
     ap (siblingsPut m n (u / 2) (at + 32)) (put-not d at (siblingAt m u) (omega arith)) ∙ put-past m n (u / 2) (at + 32) d (omega arith)
+
+-- two nodes meet no higher than was looked
+pub meeting-most : (n u v : ℕ) → meeting n u v ≤ n
+meeting-most zero u v = omega arith
+meeting-most (suc n) u v = by-test (eqb (u / 2) (v / 2)) (meeting-most n (u / 2) (v / 2))
+  where
+    by-test : (b : Bool) → meeting n (u / 2) (v / 2) ≤ n → pick b 0 (suc (meeting n (u / 2) (v / 2))) ≤ suc n
+    by-test true h = omega arith
+    by-test false h = omega arith

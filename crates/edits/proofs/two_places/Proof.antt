@@ -4,7 +4,7 @@ use Prim.Native.Nat.{ℕ, _+_}
 use native.Mathlib.Omega.{arith}
 use Rattle.sha256.specs.Hash.{sha256}
 use Rattle.edits.specs.Changes.{forkedAt}
-use Rattle.edits.proofs.Turns.{meeting-most}
+use Rattle.slots.proofs.Turns.{meeting-most}
 use Rattle.edits.proofs.Places.{two-none-left, two-none-right, two-is}
 use borrow.Author.Needs.{needs}
 use Rattle.edits.proofs.two_places.Statement.{statement}
