@@ -52,7 +52,7 @@ rowDigest D r = digestOf D (leafOf D (r .item .0) (r .next .0) (r .entry))
 -- ── plans ──
 
 -- a plan by the leaf that stands in the left slot, what changes, and what memory is to hold; its lines have no place
-abbrev pub plainPlan : Script → Item → Values → (here : Row) → Change → (left right : Row) (count : ℕ) → Revision → Plan
+unfoldable pub plainPlan : Script → Item → Values → (here : Row) → Change → (left right : Row) (count : ℕ) → Revision → Plan
 plainPlan s A v here e left right k c =
     record {
       script = s;
@@ -66,7 +66,7 @@ plainPlan s A v here e left right k c =
     }
 
 -- one whose lines have a place: it names the item that follows and the hash of the left leaf's record too
-abbrev pub placePlan : (D : List ℕ → Dig) → Script → Item → (here : Row) (next : Item) → Change → (left right : Row) (count : ℕ) → Revision → Plan
+unfoldable pub placePlan : (D : List ℕ → Dig) → Script → Item → (here : Row) (next : Item) → Change → (left right : Row) (count : ℕ) → Revision → Plan
 placePlan D s A here next e left right k c =
     record {
       script = s;

@@ -2,10 +2,12 @@
 use mathlib.Core.Path.{ap}
 use Rattle.digests.specs.declared.Digest.{Digest}
 use borrow.Author.Needs.{needs}
+use Rattle.plans.specs.Plans.{placePlan}
 use Rattle.plans.proofs.placed.Statement.{statement}
 use Rattle.plans.proofs.placed.Tie as tie
 
 returns : tie.Need-returns
+unfolding placePlan
 returns c =
     let hashed = c .before in
     let values = hashed .before .before in
