@@ -54,7 +54,8 @@ fn meeting_of(u: usize, v: usize, most: usize) -> usize
     k
 }
 
-fn ancestor_of(levels: usize, v: usize) -> usize
+// The node so many levels above v.
+pub fn ancestor_of(levels: usize, v: usize) -> usize
     ensures { λ r. ⌜ r ≡ ancestor levels v ⌝ }
 {
     let mut u = v;
