@@ -20,10 +20,10 @@ use Rattle.edits.specs.declared.Edit.{Edit}
 use Rattle.edits.specs.declared.Change.{Change}
 use Rattle.edits.specs.Changes.{risenAt, forkedAt, onePlace, twoPlaces}
 use Rattle.edits.proofs.Places.{one-is, two-is}
-use Rattle.rising.specs.Rising.{asEdit, pathFrom}
+use Rattle.rising.specs.Rising.{asEdit}
 
 -- so many levels above a node
-level-above : (n b v : ℕ) → OnLevel (b + n) v → OnLevel b (ancestor n v)
+pub level-above : (n b v : ℕ) → OnLevel (b + n) v → OnLevel b (ancestor n v)
 level-above zero b v r = subst (λ (a : ℕ). OnLevel a v) (omega arith) r
 level-above (suc n) b v r =
     let e : b + suc n ≡ suc (b + n) = omega arith in
@@ -56,9 +56,9 @@ module _ (D : List ℕ → Dig) (f : ℕ → Tree) (m : List ℕ) (k : Kept D f 
       ∙ ap (rise D (wayUp f n h v)) (sym (kept-node D f m k h (b + n) v e r)))
       (climbs D f m k n h b v x e r)
 
-  -- the path up the same way
+  -- the path up the same way, as memory has it
   pub path-in : (s : Registers) (n h b v : ℕ) (e : Edit) → h + (b + n) ≡ 10 → OnLevel (b + n) v
-      → pathFrom m v n e ≡ pathUp D s (wayUp f n h v) (asEdit e)
+      → path (e .was) (e .becomes) (v % 2 ^ n) (siblingsUp m n v) ≡ pathUp D s (wayUp f n h v) (asEdit e)
   path-in s n h b v e l r =
       ap₂ (path (e .was) (e .becomes)) (sym (sides-are f n h v)) (siblings-are D f m k n h b v l r)
 
