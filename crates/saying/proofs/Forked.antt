@@ -31,7 +31,7 @@ use Rattle.rising.proofs.Rising.{level-above, path-in}
 use Rattle.saying.specs.Spoken.{nextTalk, issuedFor, spoken}
 
 -- a slot's node, and levels as few as they are
-slot-node : (i : ℕ) → i < 1024 → slotNode i ≡ 1024 + i
+pub slot-node : (i : ℕ) → i < 1024 → slotNode i ≡ 1024 + i
 slot-node i h = let e : i % 1024 ≡ i = omega arith in ap (λ (n : ℕ). 1024 + n) e
 
 few-is : (n : ℕ) → n ≤ 9 → few n ≡ n
@@ -40,7 +40,7 @@ few-is n h = rw (le-leb n 9 h)
 
 module _ (D : List ℕ → Dig) (s : Registers) where
   -- what a path up a way issues
-  path-issues : (p : Way) (x : W.Edit) → issuedFor D s (pathUp D s p x) ≡ note D s (sayU1 x (risen D p x))
+  pub path-issues : (p : Way) (x : W.Edit) → issuedFor D s (pathUp D s p x) ≡ note D s (sayU1 x (risen D p x))
   path-issues p x =
       λ i. memorandum D (u1 (x .was) (fold-rises D p (x .was) i) (x .becomes) (fold-rises D p (x .becomes) i)) (s .secret)
 

@@ -1,3 +1,5 @@
 pub mod Forked
 pub mod Changed
 pub mod Planned
+pub mod Seen
+pub mod Rewritten
