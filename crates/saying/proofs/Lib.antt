@@ -3,3 +3,4 @@ pub mod Changed
 pub mod Planned
 pub mod Seen
 pub mod Rewritten
+pub mod Asked
