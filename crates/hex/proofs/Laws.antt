@@ -1,7 +1,7 @@
 -- Laws of hexadecimal: digits and values undo each other, and so do lines and bytes.
-use mathlib.Core.Path.{_≡_, refl}
+use mathlib.Core.Path.{_≡_, refl, sym, ap, _∙_}
 use mathlib.Core.Bool.{Bool, true, false}
-use mathlib.Core.List.{List, [], _∷_, _++_}
+use mathlib.Core.List.{List, [], _∷_, _++_, append-nil}
 use Prim.Native.Nat.{ℕ, zero, suc, _+_, _-_, _*_, _/_, _%_, _<_, _≤_}
 use native.Mathlib.Nat.{not-suc-le-zero, le-of-suc-le-suc}
 use native.Mathlib.Numerals.{add-one}
@@ -98,14 +98,17 @@ to-digit c (other f) e = cc
 pub digit-value : (c : ℕ) → isDigit c ≡ true → digitOf (valueOf c) ≡ c
 digit-value c e = to-digit c (digit c) e
 
--- what is written is read back
-pub bytes-of-digits : (f : List ℕ) → Bytes f → bytesOf (digitsOf f) ≡ f
-bytes-of-digits [] h = refl
-bytes-of-digits (b ∷ f) h =
+-- what is written is read back, before anything else
+pub bytes-before : (f x : List ℕ) → Bytes f → bytesOf (digitsOf f ++ x) ≡ f ++ bytesOf x
+bytes-before [] x h = refl
+bytes-before (b ∷ f) x h =
     let lt : b < 256 = h .0 in
     let e : 16 * valueOf (digitOf (b / 16)) + valueOf (digitOf (b % 16)) ≡ b =
     omega (arith, value-digit (b / 16) (omega arith), value-digit (b % 16) (omega arith)) in
-    rw (e, bytes-of-digits f (h .1))
+    rw (e, bytes-before f x (h .1))
+
+pub bytes-of-digits : (f : List ℕ) → Bytes f → bytesOf (digitsOf f) ≡ f
+bytes-of-digits f h = ap bytesOf (sym (append-nil (digitsOf f))) ∙ bytes-before f [] h ∙ append-nil f
 
 -- what is read is written back
 pub digits-of-bytes : (l : List ℕ) → length l % 2 ≡ 0 → allDigits l ≡ true → digitsOf (bytesOf l) ≡ l

@@ -1,3 +1,2 @@
 pub mod Ringed
 pub mod Pairs
-pub mod ByHand

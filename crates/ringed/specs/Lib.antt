@@ -1,2 +1,1 @@
 pub mod Ringed
-pub mod Pairs

@@ -1,3 +1,4 @@
 pub mod Texts
 pub mod RoundTrip
 pub mod Saved
+pub mod Judging

@@ -1,20 +1,20 @@
 -- Both round trips of a line and of a text.
 use mathlib.Core.Path.{_≡_, refl, sym, ap, ap₂, subst, _∙_}
-use mathlib.Core.Bool.{Bool, true, false, true≢false}
+use mathlib.Core.Bool.{true, true≢false}
 use mathlib.Core.List.{List, [], _∷_, _++_, append-assoc}
-use Prim.Native.Nat.{ℕ, zero, suc, _+_, _*_, _<_, _≤_, _^_}
+use Prim.Native.Nat.{ℕ, zero, suc, _+_, _≤_}
 use native.Mathlib.Omega.{arith}
 use borrow.Author.Tests.{eq-eqb}
-use lib.ListN.{length, take, drop, length-append, length-drop, take-append-drop, drop-of-length-le}
+use lib.ListN.{length, take, drop, length-drop, take-append-drop, drop-of-length-le}
 use lib.Seq.{drop-drop}
 use Rattle.seqs.specs.Choose.{_and_, Every}
-use Rattle.seqs.specs.Bytes.{Bytes, be64, numberOf, numberAt, number-at, number-be64, be64-length, be64-bytes, bytes-append, number-below, be64-number}
+use Rattle.seqs.specs.Bytes.{Bytes, be64, numberOf, numberAt, number-at, number-be64, be64-bytes, bytes-append, number-below, be64-number}
 use Rattle.hex.specs.Hex.{bytesOf, digitsOf, lineOf}
 use Rattle.hex.proofs.Laws.{value-small, bytes-of-digits, digits-of-bytes, digits-all, digits-length, bytes-length}
 use Rattle.rows.specs.declared.Row.{Row}
 use Rattle.store.specs.declared.Line.{Line}
 use Rattle.store.specs.declared.Line.the-variants.{Leaf, Unreadable}
-use Rattle.store.specs.Lines.{rowBytes, rowIn, mayStand, lineRead, lineOfRow}
+use Rattle.store.specs.Lines.{rowBytes, rowIn, lineRead, lineOfRow}
 use Rattle.store.specs.Texts.{TextRead, lineThen, textRead, textOf, frontLine}
 use Rattle.store.specs.RoundTrip.{RowFits, Storable, RoundTrips}
 use Rattle.store.proofs.Texts.{first-line, digits-no-end, read-as, fronted, text-leaf, text-stops}

@@ -1,14 +1,14 @@
 -- The lines of a text, as 0A ends them, are those of one length that stand one behind the other, up to the first that cannot be read.
-use mathlib.Core.Path.{_≡_, refl, sym, ap, ap₂, subst, _∙_}
+use mathlib.Core.Path.{_≡_, refl, sym, ap, _∙_}
 use mathlib.Core.Bool.{Bool, true, false, true≢false}
 use mathlib.Core.List.{List, [], _∷_, _++_, append-nil, append-assoc}
-use Prim.Native.Nat.{ℕ, zero, suc, _+_, _*_, _<_, _≤_}
+use Prim.Native.Nat.{ℕ, _+_, _<_, _≤_}
 use native.Mathlib.Nat.{not-suc-le-zero}
 use native.Mathlib.Omega.{arith}
 use borrow.Author.Tests.{eq-eqb, ne-eqb, eqb-true, le-leb, lt-leb, leb-true}
 use lib.Dec.{eqb, leb}
 use lib.ListN.{length, getD, take, drop, length-append, length-drop, take-append-drop, drop-of-length-le}
-use lib.Seq.{take-at, drop-at, getD-at, drop-cons, drop-drop, getD-drop}
+use lib.Seq.{take-at, getD-at, drop-cons, drop-drop, getD-drop}
 use Rattle.seqs.specs.Choose.{pick, both, both-true, Every}
 use Rattle.hex.specs.Hex.{isDigit, allDigits, bytesOf}
 use Rattle.hex.proofs.Laws.{digit-range}
@@ -18,7 +18,6 @@ use Rattle.pieces.proofs.Laws.{feed-append}
 use Rattle.rows.specs.declared.Row.{Row}
 use Rattle.store.specs.declared.Line.{Line}
 use Rattle.store.specs.declared.Line.the-variants.{Leaf, Unreadable}
-use Rattle.store.specs.declared.Lines.{Lines}
 use Rattle.store.specs.declared.Lines.the-variants.{Readable, Stopped}
 use Rattle.store.specs.Lines.{rowIn, mayStand, lineRead}
 use Rattle.store.specs.Texts.{TextRead, lineThen, linesRead, textRead, linesIn, frontLine, isLeaf}

@@ -1,3 +1,4 @@
 pub mod Lines
 pub mod Texts
 pub mod RoundTrip
+pub mod Judging

@@ -1,6 +1,6 @@
 -- A line of the tablet's store: a leaf's numbers A and A' and its record's, eight bytes each, as digits, and 0A.
 use mathlib.Core.Bool.{Bool}
-use mathlib.Core.List.{List, [], _∷_, _++_}
+use mathlib.Core.List.{List}
 use Prim.Native.Nat.{ℕ, _+_, _*_}
 use lib.Dec.{eqb}
 use lib.ListN.{length}

@@ -8,13 +8,18 @@ use paper::Revision;
 use paper::Rigging;
 use rows::Row;
 ghost use mathlib.Core.Path.{_≡_};
-ghost use Prim.Native.Nat.{_*_};
+ghost use mathlib.Core.Bool.{true};
+ghost use Prim.Native.Nat.{_*_, _<_};
 ghost use lib.Dec.{leb};
 ghost use lib.ListN.{length, drop};
+ghost use Rattle.seqs.specs.Bytes.{numberAt};
 ghost use Rattle.seqs.specs.Over.{written};
-ghost use Rattle.rows.specs.Rows.{rowsFrom};
+ghost use Rattle.hex.specs.Hex.{bytesOf};
+ghost use Rattle.rows.specs.Rows.{rowsFrom, ofItem};
+ghost use Rattle.rows.specs.Pairs.{rowOf, anyOf, breakOf};
 ghost use Rattle.store.specs.Lines.{lineBytes, rowBytes, rowIn, mayStand, lineRead, lineOfRow};
-ghost use Rattle.store.specs.Texts.{linesIn, textOf, frontLine, isLeaf};
+ghost use Rattle.store.specs.Texts.{textRead, linesIn, textOf, frontLine, isLeaf};
+ghost use Rattle.store.specs.Judging.{brokenBy, ringJudged, judged};
 
 // The digits of a line, and its bytes with the 0A. The definitions' names are `lineDigits` and `lineBytes`.
 pub const DIGITS: usize = 96;
@@ -31,6 +36,14 @@ pub enum Line {
 pub enum Lines {
     Readable(usize),
     Stopped(usize),
+}
+
+// What a text comes to: a ring of so many lines, a line that cannot be read, too many lines, or two that break the ring.
+pub enum Judged {
+    Ring(usize),
+    Stopped(usize),
+    TooMany(usize),
+    Broken(usize, usize),
 }
 
 // A leaf's numbers, one behind the other.
@@ -171,4 +184,133 @@ pub fn save(leaves: &[u64], k: usize, space: &mut [u8]) -> bool
         i += 1;
     }
     true
+}
+
+// The number of the first 16 digits.
+fn number_of(digits: &[u8]) -> u64
+    ensures { λ r. ⌜ r ≡ numberAt (bytesOf (now (digits .entry))) 0 ⌝ }
+{
+    fields::join8(
+        hex::byte_at(digits, 0),
+        hex::byte_at(digits, 1),
+        hex::byte_at(digits, 2),
+        hex::byte_at(digits, 3),
+        hex::byte_at(digits, 4),
+        hex::byte_at(digits, 5),
+        hex::byte_at(digits, 6),
+        hex::byte_at(digits, 7),
+    )
+}
+
+// The number whose digits stand at a place of a text.
+fn number_in(text: &[u8], at: usize) -> u64
+    ensures { λ r. ⌜ r ≡ numberAt (bytesOf (drop at (now (text .entry)))) 0 ⌝ }
+{
+    if text.len() < at {
+        return 0;
+    }
+    number_of(&text[at..])
+}
+
+// The item of line i, and the item that it leads to, straight from their digits: every line can be read, so that line i stands
+// behind i lines of one length.
+fn item_in(text: &[u8], i: usize) -> u64
+    requires { ⌜ textRead (now text) .whole ≡ true ⌝ }
+    requires { ⌜ i < length (textRead (now text) .rows) ⌝ }
+    ensures { λ r. ⌜ r ≡ rowOf (textRead (now (text .entry)) .rows) i .item .0 ⌝ }
+{
+    number_in(text, LINE * i)
+}
+
+fn next_in(text: &[u8], i: usize) -> u64
+    requires { ⌜ textRead (now text) .whole ≡ true ⌝ }
+    requires { ⌜ i < length (textRead (now text) .rows) ⌝ }
+    ensures { λ r. ⌜ r ≡ rowOf (textRead (now (text .entry)) .rows) i .next .0 ⌝ }
+{
+    number_in(text, LINE * i + 16)
+}
+
+// Whether one of n lines is of item a.
+fn stands(text: &[u8], n: usize, a: u64) -> bool
+    requires { ⌜ textRead (now text) .whole ≡ true ⌝ }
+    requires { ⌜ n ≡ length (textRead (now text) .rows) ⌝ }
+    ensures { λ r. ⌜ r ≡ anyOf (ofItem a) (textRead (now (text .entry)) .rows) ⌝ }
+{
+    let mut i: usize = 0;
+    while i < n {
+        if a == item_in(text, i) {
+            return true;
+        }
+        i += 1;
+    }
+    false
+}
+
+// Whether line i, of item a that leads to b, breaks with line j; with itself it breaks where b does not stand in a line.
+fn breaks_with(text: &[u8], i: usize, j: usize, a: u64, b: u64, led: bool) -> bool
+    requires { ⌜ textRead (now text) .whole ≡ true ⌝ }
+    requires { ⌜ j < length (textRead (now text) .rows) ⌝ }
+    ensures { λ r. ⌜ r ≡ brokenBy (rowOf (textRead (now (text .entry)) .rows) j .item .0) i j a b led ⌝ }
+{
+    if i == j {
+        return !led;
+    }
+    let q = item_in(text, j);
+    if q == a {
+        return true;
+    }
+    records::in_gap(Item(q), Item(a), Item(b))
+}
+
+// The first of n lines that line i breaks with; n where it breaks with none.
+fn break_of(text: &[u8], n: usize, i: usize) -> usize
+    requires { ⌜ textRead (now text) .whole ≡ true ⌝ }
+    requires { ⌜ n ≡ length (textRead (now text) .rows) ⌝ }
+    requires { ⌜ i < n ⌝ }
+    ensures { λ r. ⌜ r ≡ breakOf (textRead (now (text .entry)) .rows) i ⌝ }
+{
+    let a = item_in(text, i);
+    let b = next_in(text, i);
+    let led = stands(text, n, b);
+    let mut j: usize = 0;
+    while j < n {
+        if breaks_with(text, i, j, a, b, led) {
+            return j;
+        }
+        j += 1;
+    }
+    n
+}
+
+// Lines that can all be read: their ring, or the first two that break it.
+fn judge_ring(text: &[u8], n: usize) -> Judged
+    requires { ⌜ textRead (now text) .whole ≡ true ⌝ }
+    requires { ⌜ n ≡ length (textRead (now text) .rows) ⌝ }
+    ensures { λ r. ⌜ r ≡ ringJudged (textRead (now (text .entry)) .rows) ⌝ }
+{
+    let mut i: usize = 0;
+    while i < n {
+        let j = break_of(text, n, i);
+        if j < n {
+            return Judged::Broken(i, j);
+        }
+        i += 1;
+    }
+    Judged::Ring(n)
+}
+
+// Whether a text's lines can all be read, are at most so many and are one ascending ring.
+pub fn judge(text: &[u8], most: usize) -> Judged
+    ensures { λ r. ⌜ r ≡ judged (now (text .entry)) most ⌝ }
+{
+    let lines = count_lines(text);
+    match lines {
+        Lines::Stopped(n) => Judged::Stopped(n),
+        Lines::Readable(n) => {
+            if most < n {
+                return Judged::TooMany(n);
+            }
+            judge_ring(text, n)
+        }
+    }
 }

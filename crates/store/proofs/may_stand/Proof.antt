@@ -1,5 +1,4 @@
 -- The three tests in their order.
-use mathlib.Core.Path.{sym, _∙_}
 use borrow.Author.Tests.{eq-eqb, ne-eqb}
 use Rattle.store.specs.Lines.{mayStand}
 use borrow.Author.Needs.{needs}
