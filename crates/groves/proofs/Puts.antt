@@ -20,7 +20,7 @@ use Rattle.rings.specs.Trees.{Tree, hashOf}
 use Rattle.slots.specs.Nodes.{nodeAt, putNode, summed, rehashed, leafPut}
 use Rattle.groves.specs.Grove.{with, slotsOf, Kept}
 use Rattle.groves.proofs.Stored.{slot-is}
-use Rattle.slots.proofs.Turns.{node-length}
+use Rattle.slots.proofs.Turns.{node-length, rehashed-length}
 
 -- ── a digest put among bytes ──
 
@@ -114,10 +114,6 @@ module _ (D : List ℕ → Dig) (D32 : (l : List ℕ) → length (D l) ≡ 32) w
       slots-stay n (v / 2) (putNode m (v / 2) (summed D m (v / 2))) (node-length m (v / 2) _ ∙ r) (omega arith) u g
       ∙ node-else m (v / 2) u _ r (sum-wide m (v / 2)) (omega arith) (λ e. omega arith)
 
-  pub rehashed-length : (n v : ℕ) (m : List ℕ) → length (rehashed D n v m) ≡ length m
-  rehashed-length zero v m = refl
-  rehashed-length (suc n) v m = rehashed-length n (v / 2) _ ∙ node-length m (v / 2) _
-
   -- ── a leaf put ──
 
   pub put-kept : (f : ℕ → Tree) (m : List ℕ) (i : ℕ) (X : Tree) → i < 1024 → length (hashOf D X) ≡ 32 → Kept D f m
@@ -133,7 +129,7 @@ module _ (D : List ℕ → Dig) (D32 : (l : List ℕ) → length (D l) ≡ 32) w
       λ u pos small a. same u (λ e. omega arith) ∙ k .above u pos small
       ∙ ap₂ (H D) (sym (same (2 * u) (λ e. a (omega arith)))) (sym (same (2 * u + 1) (λ e. a (omega arith)))) in
       rw (lt-ltb i 1024 h) (record {
-        long = rehashed-length 10 v m₁ ∙ r₁;
+        long = rehashed-length D 10 v m₁ ∙ r₁;
         slots = λ j b. slots-stay 10 v m₁ r₁ (omega arith) (1024 + j) (omega arith) ∙ slot j b (ℕ-discrete (1024 + j) v);
         above = summed-again 10 v m₁ r₁ (omega arith) (omega arith) (omega arith) but;
       })

@@ -4,7 +4,7 @@ use mathlib.Core.Bool.{Bool, true, false}
 use mathlib.Core.List.{List, _++_, append-nil}
 use Prim.Native.Nat.{ℕ, zero, suc, _+_, _-_, _*_, _/_, _%_, _<_, _≤_}
 use native.Mathlib.Omega.{arith}
-use lib.Dec.{eqb}
+use lib.Dec.{eqb, ltb}
 use lib.ListN.{length, replicate, length-replicate, drop-of-length-le}
 use lib.Seq.{drop-length}
 use Rattle.seqs.specs.Choose.{pick}
@@ -14,7 +14,7 @@ use Rattle.sha256.specs.Hash.{sha256}
 use Rattle.paper.specs.Strings.{Dig, H, parentForms, up}
 use Rattle.digests.specs.declared.Digest.{Digest}
 use Rattle.digests.specs.Worked.{worked}
-use Rattle.slots.specs.Nodes.{meeting, nodeAt, putNode, siblingAt, siblingsPut, summed, rehashed, climbed}
+use Rattle.slots.specs.Nodes.{slotCount, levelCount, meeting, nodeAt, putNode, siblingAt, siblingsPut, summed, rehashed, leafPut, climbed}
 
 pub past-node : (m : List ℕ) (v : ℕ) → length m / 32 < v → replicate 32 0 ≡ nodeAt m v
 unfolding nodeAt digestAt
@@ -29,6 +29,18 @@ past-put m v d h = sym (put-not m (32 * v) d (omega arith))
 pub node-length : (m : List ℕ) (v : ℕ) (d : Dig) → length (putNode m v d) ≡ length m
 unfolding putNode
 node-length m v d = put-length m (32 * v) d
+
+pub rehashed-length : (D : List ℕ → Dig) (n v : ℕ) (m : List ℕ) → length (rehashed D n v m) ≡ length m
+rehashed-length D zero v m = refl
+rehashed-length D (suc n) v m = rehashed-length D n (v / 2) _ ∙ node-length m (v / 2) _
+
+pub leaf-length : (D : List ℕ → Dig) (m : List ℕ) (i : ℕ) (d : Dig) → length (leafPut D m i d) ≡ length m
+unfolding leafPut
+leaf-length D m i d = by-test (ltb i slotCount)
+  where
+    by-test : (b : Bool) → length (pick b (rehashed D levelCount (slotCount + i) (putNode m (slotCount + i) d)) m) ≡ length m
+    by-test true = rehashed-length D levelCount (slotCount + i) _ ∙ node-length m (slotCount + i) d
+    by-test false = refl
 
 -- zeros written over every byte
 pub all-zero : (l : List ℕ) → over (length l) (replicate (length l) 0) l ≡ replicate (length l) 0
