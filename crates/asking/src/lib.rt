@@ -139,7 +139,8 @@ fn turns_round(script: Script) -> bool
     }
 }
 
-fn sent_edit(script: Script, e: Edit) -> Edit
+// An edit as the script sends it.
+pub fn sent_edit(script: Script, e: Edit) -> Edit
     ensures { λ r. ⌜ r ≡ sent script e ⌝ }
 {
     if turns_round(script) {

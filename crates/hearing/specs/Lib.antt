@@ -1,0 +1,3 @@
+pub mod Awaiting
+pub mod Hearing
+pub mod Knowing
