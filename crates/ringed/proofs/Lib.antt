@@ -1,2 +1,3 @@
 pub mod Ringed
 pub mod Pairs
+pub mod Rings

@@ -63,14 +63,14 @@ module _ {R : Type 0} where
   unlisted-if q (itemWith a r ∷ l) f =
       ((λ e. f r (List·Memᴰ·head {x = itemWith a r} (cc))), unlisted-if q l (λ s m. f s (List·Memᴰ·tail m)))
 
-  listed-not : (q : ℕ) (r : R) (l : List (ListItem R)) → Unlisted q l → OnList q r l → ⊥
+  pub listed-not : (q : ℕ) (r : R) (l : List (ListItem R)) → Unlisted q l → OnList q r l → ⊥
   listed-not q r [] u m = elim m [ ]
   listed-not q r (itemWith a s ∷ l) u m =
       elim (List·Memᴰ·cases-cons m) [ inl e ↦ (let p : q ≡ a = cc in u .0 p) | inr k ↦ listed-not q r l (u .1) k ]
 
 -- ── rows and the list ──
 
-row-listed : (r : Row) (l : List Row) → List·Memᴰ r l → OnList (r .item .0) (r .entry) (listOf l)
+pub row-listed : (r : Row) (l : List Row) → List·Memᴰ r l → OnList (r .item .0) (r .entry) (listOf l)
 row-listed r [] m = elim m [ ]
 row-listed r (s ∷ l) m =
     elim (List·Memᴰ·cases-cons m) [
@@ -78,7 +78,7 @@ row-listed r (s ∷ l) m =
       | inr k ↦ still-in _ _ _ _ (listOf l) (row-listed r l k)
     ]
 
-listed-row : (a : ℕ) (s : Record) (l : List Row) → OnList a s (listOf l)
+pub listed-row : (a : ℕ) (s : Record) (l : List Row) → OnList a s (listOf l)
     → (r : Row) × List·Memᴰ r l × (r .item .0 ≡ a) × (r .entry ≡ s)
 listed-row a s [] m = elim m [ ]
 listed-row a s (r ∷ l) m =
@@ -112,6 +112,24 @@ next-is a b c pb pc f g = by-order (decLt a b) (decLt a c)
           | no l ↦ elim (decLt b c) [ yes u ↦ absurd (g (before (omega arith) pb u)) | no u ↦ omega arith ]
         ]
 
+-- rows as leaves, one by one
+module _ (h : Record → Dig) where
+  pub leaf-row : (x : TreeLeaf) (l : List Row) → 0 < count x (leavesBy h l) → (r : Row) × List·Memᴰ r l × (x ≡ leafBy h r)
+  leaf-row x [] m = absurd (omega (arith, count-nil x))
+  leaf-row x (r ∷ l) m =
+      elim (count-cases x (leafBy h r) (leavesBy h l) m) [
+        | inl e ↦ (r, List·Memᴰ·head refl, e)
+        | inr j ↦ (let i = leaf-row x l j in (i .0, List·Memᴰ·tail (i .1), i .2))
+      ]
+
+  pub row-leaf : (r : Row) (l : List Row) → List·Memᴰ r l → 0 < count (leafBy h r) (leavesBy h l)
+  row-leaf r [] m = elim m [ ]
+  row-leaf r (s ∷ l) m =
+      elim (List·Memᴰ·cases-cons m) [
+        | inl e ↦ count-head (leafBy h r) (leafBy h s) (leavesBy h l) (ap (leafBy h) e)
+        | inr j ↦ omega (arith, count-cons (leafBy h r) (leafBy h s) (leavesBy h l), row-leaf r l j)
+      ]
+
 module _ (l : List Row) (k : Closed l) (h : Record → Dig) where
   up : AscendingFrom 0 (listOf l)
   up = list-ascending l (k .distinct) (k .positive)
@@ -134,29 +152,12 @@ module _ (l : List Row) (k : Closed l) (h : Record → Dig) where
       true≢false (sym (gap-tells g) ∙ subst (λ (x : ℕ). inGap x (r .item .0) (r .next .0) ≡ false) (s .2) (k .clear r (s .0) m (s .1)))) in
       subst (λ (x : ℕ). 0 < count (points (r .item .0) x (h (r .entry))) (ring h (listOf l))) e (i .1)
 
-  -- rows as leaves, one by one
-  leaf-row : (x : TreeLeaf) (l : List Row) → 0 < count x (leavesBy h l) → (r : Row) × List·Memᴰ r l × (x ≡ leafBy h r)
-  leaf-row x [] m = absurd (omega (arith, count-nil x))
-  leaf-row x (r ∷ l) m =
-      elim (count-cases x (leafBy h r) (leavesBy h l) m) [
-        | inl e ↦ (r, List·Memᴰ·head refl, e)
-        | inr j ↦ (let i = leaf-row x l j in (i .0, List·Memᴰ·tail (i .1), i .2))
-      ]
-
-  row-leaf : (r : Row) (l : List Row) → List·Memᴰ r l → 0 < count (leafBy h r) (leavesBy h l)
-  row-leaf r [] m = elim m [ ]
-  row-leaf r (s ∷ l) m =
-      elim (List·Memᴰ·cases-cons m) [
-        | inl e ↦ count-head (leafBy h r) (leafBy h s) (leavesBy h l) (ap (leafBy h) e)
-        | inr j ↦ omega (arith, count-cons (leafBy h r) (leafBy h s) (leavesBy h l), row-leaf r l j)
-      ]
-
   rows-once : (x : TreeLeaf) (l : List Row) → Distinct l → count x (leavesBy h l) ≤ 1
   rows-once x [] d = omega (arith, count-nil x)
   rows-once x (r ∷ l) d =
       elim (decLt 0 (count x (leavesBy h l))) [
         | yes a ↦ (
-            let i = leaf-row x l a in
+            let i = leaf-row h x l a in
             elim (decLt 0 (one x (leafBy h r))) [
               | yes b ↦ absurd (d .0 (i .0) (i .1) (ap itemOf (sym (i .2) ∙ one-same x (leafBy h r) b)))
               | no b ↦ omega (arith, count-cons x (leafBy h r) (leavesBy h l), rows-once x l (d .1))
@@ -170,13 +171,13 @@ module _ (l : List Row) (k : Closed l) (h : Record → Dig) where
       let i = leaf-held h x (listOf l) m in
       let r = listed-row (itemOf x) (i .0) l (i .1) in
       let e = one-of-item h x (leafBy h (r .0)) (listOf l) up (sym (r .2)) m (in-ring (r .0) (r .1)) in
-      subst (λ (y : TreeLeaf). 0 < count y (leavesBy h l)) (sym e) (row-leaf (r .0) l (r .1))
+      subst (λ (y : TreeLeaf). 0 < count y (leavesBy h l)) (sym e) (row-leaf h (r .0) l (r .1))
 
   pub ringed : SameLeaves (leavesBy h l) (ring h (listOf l))
   ringed x =
       elim (decLt 0 (count x (leavesBy h l))) [
         | yes a ↦ (
-            let r = leaf-row x l a in
+            let r = leaf-row h x l a in
             let b = subst (λ (y : TreeLeaf). 0 < count y (ring h (listOf l))) (sym (r .2)) (in-ring (r .0) (r .1)) in
             omega (arith, a, b, rows-once x l (k .distinct), ring-once h x (listOf l) up))
         | no a ↦ elim (decLt 0 (count x (ring h (listOf l)))) [

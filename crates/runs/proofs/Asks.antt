@@ -68,7 +68,7 @@ module _ {D : List ℕ → Dig} {w : World} {T : Tree} (g : Ground D w T) where
   -- ── a leaf that tells of q ──
 
   -- q's own leaf, or the one whose gap holds q
-  tells : (q : ℕ) → 0 < q → (a : ℕ) (r : Record) (l : Items) → w .items ≡ itemWith a r ∷ l → has (tellsOf q) T ≡ true
+  pub tells : (q : ℕ) → 0 < q → (a : ℕ) (r : Record) (l : Items) → w .items ≡ itemWith a r ∷ l → has (tellsOf q) T ≡ true
   tells q h a r l e =
       elim (listed? q (w .items)) [
         | inr t ↦ (

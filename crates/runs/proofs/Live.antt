@@ -157,7 +157,7 @@ words-bytes a b c d e f g h =
     let l₇ = be32 b ++ l₆ in
     more a l₇ (more b l₆ (more c l₅ (more d l₄ (more e l₃ (more f l₂ (more g (be32 h) (be32-bytes h)))))))
 
-sha256-bytes : (m : List ℕ) → Bytes (sha256 m)
+pub sha256-bytes : (m : List ℕ) → Bytes (sha256 m)
 unfolding sha256
 sha256-bytes m = words-bytes _ _ _ _ _ _ _ _
 

@@ -42,7 +42,7 @@ use Rattle.runs.proofs.Carried as C
 use Rattle.runs.proofs.Carried.{Given, Or, Asked, asked-at}
 
 -- a well formed record with revision 0 is the empty one
-blank-empty : (r : Record) → blank r ≡ true → malformed r ≡ false → r ≡ emptyRecord
+pub blank-empty : (r : Record) → blank r ≡ true → malformed r ≡ false → r ≡ emptyRecord
 unfolding recordForms
 blank-empty r e ok = by-known (known-by (λ s. []) [] r ok no-forms)
   where

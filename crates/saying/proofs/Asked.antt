@@ -76,7 +76,7 @@ module _ (D : List ℕ → Dig) (leaves m : List ℕ) (k : ℕ) (kept : Kept D (
   unfolding rowDigest
   leaf-node = kept .slots i (omega arith) ∙ slot-digest D leaves m k i there
 
-  root-node : nodeAt m 1 ≡ Y .was
+  pub root-node : nodeAt m 1 ≡ Y .was
   unfolding risenAt
   root-node =
       ap (nodeAt m) (sym (top-is 10 (1024 + i) (slot-level i (omega arith))))
@@ -100,7 +100,7 @@ module _ (D : List ℕ → Dig) (leaves m : List ℕ) (k : ℕ) (kept : Kept D (
   }
   is = sym (still-is m i (omega arith))
 
-  plan-is : asked leaves m k c q ≡ plainPlan Asking q noValues here still here noRow k c
+  pub plan-is : asked leaves m k c q ≡ plainPlan Asking q noValues here still here noRow k c
   unfolding asked
   plan-is = rw (ne-eqb k 0 some)
 
@@ -130,9 +130,13 @@ module _ (D : List ℕ → Dig) (leaves m : List ℕ) (k : ℕ) (kept : Kept D (
       ap (λ (x : Change). ask (q .0) (here .item .0) (here .next .0) (here .entry) (x .root .was) e) is
       ∙ ap (λ (r : Dig). ask (q .0) (here .item .0) (here .next .0) (here .entry) r e) root-node
 
-  pub ask-lines : (l : Items) → recordOf (here .item .0) l ≡ here .entry
-      → spoken D s m 3 (startOf (asked leaves m k c q)) ≡ leafLines D s (q .0) T l
-  ask-lines l old =
+  -- line by line
+  pub ask-spoken : spoken D s m 3 (startOf (asked leaves m k c q))
+      ≡ pathUp D s (wayUp F 10 0 (1024 + i)) X
+      ∷ witness d (Y .was) (note D s (sayU1 X Y))
+      ∷ ask (q .0) (here .item .0) (here .next .0) (here .entry) (Y .was) (note D s (v1 d (Y .was)))
+      ∷ []
+  ask-spoken =
       let n1 = note D s (sayU1 X Y) in
       let n2 = note D s (v1 d (Y .was)) in
       let t1 : Talk = record { plan = P; step = 1; older = nought; memo = n1 } in
@@ -144,6 +148,13 @@ module _ (D : List ℕ → Dig) (leaves m : List ℕ) (k : ℕ) (kept : Kept D (
       ∙ ap (λ (r : List Request). pathUp D s w X ∷ r)
       (one-line D s m 1 t1 q1 n2 (witness-line nought n1) refl
       ∙ ap (λ (r : List Request). q1 ∷ r) (one-line D s m 0 t2 q2 nought (ask-line n1 n2) refl))
+
+  pub ask-lines : (l : Items) → recordOf (here .item .0) l ≡ here .entry
+      → spoken D s m 3 (startOf (asked leaves m k c q)) ≡ leafLines D s (q .0) T l
+  ask-lines l old =
+      let q1 = witness d (Y .was) (note D s (sayU1 X Y)) in
+      let q2 = ask (q .0) (here .item .0) (here .next .0) (here .entry) (Y .was) (note D s (v1 d (Y .was))) in
+      ask-spoken
       ∙ ap (λ (r : List Request). r ++ (q1 ∷ q2 ∷ [])) (sym (one-path D s w X (omega (arith, way-length F 10 0 (1024 + i)))))
       ∙ sym (listed-lines l old)
     where

@@ -88,7 +88,7 @@ module _ (D : List ℕ → Dig) (leaves m : List ℕ) (k : ℕ) (kept : Kept D (
         ∙ (λ e. record { was = slot-digest D leaves m k i there e; becomes = x })
         ∙ ap (λ (a : ℕ). edit a (here .next .0) (here .entry)) (sym own)
 
-    root-is : asEdit (theChange .root) ≡ risen D (wayUp F 10 0 (1024 + i)) (edit (A .0) (here .next .0) (here .entry))
+    pub root-is : asEdit (theChange .root) ≡ risen D (wayUp F 10 0 (1024 + i)) (edit (A .0) (here .next .0) (here .entry))
     root-is = one-risen D F m kept i x (omega arith) .root ∙ ap (risen D (wayUp F 10 0 (1024 + i))) leaf-is
 
     left-is : theChange .left ≡ i
@@ -110,47 +110,68 @@ module _ (D : List ℕ → Dig) (leaves m : List ℕ) (k : ℕ) (kept : Kept D (
       -- and whose second line comes to q
       two-lines : (q : Request)
           → requestAt m (record { plan = P; step = 1; older = nought; memo = note D s (sayU1 E (risen D (wayUp F 10 0 (1024 + i)) E)) }) ≡ q
-          → spoken D s m 2 (startOf P) ≡ onePlace D s (wayUp F 10 0 (1024 + i)) E ++ (q ∷ [])
+          → spoken D s m 2 (startOf P) ≡ pathUp D s (wayUp F 10 0 (1024 + i)) E ∷ q ∷ []
       two-lines q e =
           let w = wayUp F 10 0 (1024 + i) in
           let d = note D s (sayU1 E (risen D w E)) in
           let t : Talk = record { plan = P; step = 1; older = nought; memo = d } in
           one-line D s m 1 (startOf P) (pathUp D s w E) d (path-line nought nought) (path-issues D s w E)
           ∙ ap (λ (l : List Request). pathUp D s w E ∷ l) (one-line D s m 0 t q _ e refl)
-          ∙ ap (λ (l : List Request). l ++ (q ∷ [])) (sym (one-path D s w E (omega (arith, way-length F 10 0 (1024 + i)))))
+
+    -- the path as `runs` has it
+    as-one-place : (q : Request) → pathUp D s (wayUp F 10 0 (1024 + i)) E ∷ q ∷ [] ≡ onePlace D s (wayUp F 10 0 (1024 + i)) E ++ (q ∷ [])
+    as-one-place q =
+        ap (λ (l : List Request). l ++ (q ∷ [])) (sym (one-path D s (wayUp F 10 0 (1024 + i)) E (omega (arith, way-length F 10 0 (1024 + i)))))
 
   -- ── set and clear ──
 
-  pub set-lines : (l : Items) → recordOf (A .0) l ≡ here .entry → nextRecord s v ≡ recordAfter c v
-      → spoken D s m 2 (startOf (rewritten D leaves m k c Setting A v (recordAfter c v))) ≡ setLines D s (A .0) v T l
+  -- line by line
+  pub set-spoken : spoken D s m 2 (startOf (rewritten D leaves m k c Setting A v (recordAfter c v)))
+      ≡ (let x = edit (recordAfter c v) (A .0) (here .next .0) (here .entry) in
+      let y = risen D (wayUp F 10 0 (1024 + i)) x in
+      pathUp D s (wayUp F 10 0 (1024 + i)) x
+      ∷ setTo (A .0) (here .next .0) (here .entry) v (y .was) (y .becomes) (note D s (sayU1 x y))
+      ∷ [])
   unfolding rewritten plainPlan requestAt
-  set-lines l old new =
+  set-spoken =
       let P = rewritten D leaves m k c Setting A v (recordAfter c v) in
-      let w = wayUp F 10 0 (1024 + i) in
       let x = edit (recordAfter c v) (A .0) (here .next .0) (here .entry) in
-      let y = risen D w x in
+      let y = risen D (wayUp F 10 0 (1024 + i)) x in
       let d = note D s (sayU1 x y) in
       two-lines (recordAfter c v) P refl refl refl
       (setTo (A .0) (here .next .0) (here .entry) v (y .was) (y .becomes) d)
       (ap (λ (r : W.Edit). setTo (A .0) (here .next .0) (here .entry) v (r .was) (r .becomes) d) (root-is (recordAfter c v)))
+
+  pub set-lines : (l : Items) → recordOf (A .0) l ≡ here .entry → nextRecord s v ≡ recordAfter c v
+      → spoken D s m 2 (startOf (rewritten D leaves m k c Setting A v (recordAfter c v))) ≡ setLines D s (A .0) v T l
+  set-lines l old new =
+      set-spoken ∙ as-one-place (recordAfter c v) _
       ∙ sym (λ e.
       let A′ = nextOf (sight .is-it e) in
       let x : W.Edit = record { was = digestOf D (leafOf D (A .0) A′ (old e)); becomes = digestOf D (leafOf D (A .0) A′ (new e)) } in
       let y = risen D (sight .its-way e) x in
       onePlace D s (sight .its-way e) x ++ (setTo (A .0) A′ (old e) v (y .was) (y .becomes) (note D s (sayU1 x y)) ∷ []))
 
-  pub clear-lines : (l : Items) → recordOf (A .0) l ≡ here .entry
-      → spoken D s m 2 (startOf (rewritten D leaves m k c Clearing A noValues clearedRecord)) ≡ clearLines D s (A .0) T l
+  pub clear-spoken : spoken D s m 2 (startOf (rewritten D leaves m k c Clearing A noValues clearedRecord))
+      ≡ (let x = edit clearedRecord (A .0) (here .next .0) (here .entry) in
+      let y = risen D (wayUp F 10 0 (1024 + i)) x in
+      pathUp D s (wayUp F 10 0 (1024 + i)) x
+      ∷ clear (A .0) (here .next .0) (here .entry) (y .was) (y .becomes) (note D s (sayU1 x y))
+      ∷ [])
   unfolding rewritten plainPlan requestAt
-  clear-lines l old =
+  clear-spoken =
       let P = rewritten D leaves m k c Clearing A noValues clearedRecord in
-      let w = wayUp F 10 0 (1024 + i) in
       let x = edit clearedRecord (A .0) (here .next .0) (here .entry) in
-      let y = risen D w x in
+      let y = risen D (wayUp F 10 0 (1024 + i)) x in
       let d = note D s (sayU1 x y) in
       two-lines clearedRecord P refl refl refl
       (clear (A .0) (here .next .0) (here .entry) (y .was) (y .becomes) d)
       (ap (λ (r : W.Edit). clear (A .0) (here .next .0) (here .entry) (r .was) (r .becomes) d) (root-is clearedRecord))
+
+  pub clear-lines : (l : Items) → recordOf (A .0) l ≡ here .entry
+      → spoken D s m 2 (startOf (rewritten D leaves m k c Clearing A noValues clearedRecord)) ≡ clearLines D s (A .0) T l
+  clear-lines l old =
+      clear-spoken ∙ as-one-place clearedRecord _
       ∙ sym (λ e.
       let A′ = nextOf (sight .is-it e) in
       let x : W.Edit = record { was = digestOf D (leafOf D (A .0) A′ (old e)); becomes = digestOf D (leafOf D (A .0) A′ clearedRecord) } in

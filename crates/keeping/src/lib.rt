@@ -1,0 +1,1 @@
+// The tablet's conversation with the module. No code: see specs/ and proofs/.
