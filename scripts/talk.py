@@ -1,0 +1,115 @@
+"""Programs that answer each line with a line, and a wish carried between a keeper and a module. Shared by bin/cab and the tests.
+
+A line is handed over and given back as bytes, without its 0A.
+"""
+import os
+import pathlib
+import select
+import signal
+import subprocess
+
+ROOT = pathlib.Path(__file__).resolve().parent.parent
+MADE = ROOT / "reference" / "target" / "release"
+COMMITTING = (b"0b", b"0c", b"0d")  # adopt, set and clear: the kinds of line by which the module changes
+COUNTED = (b"8c", b"8d")  # the replies of set and clear, which end in the counter
+GRACE = 10  # seconds for a program to end by itself once its input has
+
+
+def module_command():
+    """The module: MODULE, or the proved one."""
+    return [os.environ.get("MODULE") or str(ROOT / "bin" / "knotcinder")]
+
+
+def keeper_command(store):
+    """The keeper on a store: KEEPER, or the proved one."""
+    return [os.environ.get("KEEPER") or str(ROOT / "bin" / "keeper"), str(store)]
+
+
+def ended_how(status):
+    """A status in words."""
+    return f"by {signal.Signals(-status).name}" if status < 0 else f"with status {status}"
+
+
+class Ended(Exception):
+    """A program ended, or has said nothing for too long, where a line of it was awaited."""
+
+    def __init__(self, name, status):
+        self.name, self.status = name, status
+        how = "said nothing for too long" if status is None else f"ended {ended_how(status)}"
+        super().__init__(f"the {name} {how}")
+
+
+class Program:
+    """A program under way. It is in a session of its own, so that an interrupt at the terminal is for whoever started it."""
+
+    def __init__(self, name, command, patience=None, errors=None):
+        """`patience` is how many seconds a line of it may take; `errors` where its standard error goes."""
+        self.name, self.patience, self.got = name, patience, b""
+        self.child = subprocess.Popen(
+            command, stdin=subprocess.PIPE, stdout=subprocess.PIPE, stderr=errors, bufsize=0, start_new_session=True
+        )
+
+    def answer(self, line):
+        """Sends a line and gives the one that comes back."""
+        self.send(line + b"\n")
+        return self.heard()
+
+    def send(self, sent):
+        try:
+            while sent:
+                sent = sent[self.child.stdin.write(sent) :]
+        except BrokenPipeError:
+            pass  # it has ended; what it said before is still to be heard
+
+    def heard(self):
+        while b"\n" not in self.got:
+            if self.patience and not select.select([self.child.stdout], [], [], self.patience)[0]:
+                self.kill()
+                raise Ended(self.name, None)
+            part = os.read(self.child.stdout.fileno(), 65536)
+            if not part:
+                raise Ended(self.name, self.end())
+            self.got += part
+        line, _, self.got = self.got.partition(b"\n")
+        return line
+
+    def rest(self):
+        """Ends its input: all that it says behind what was heard, and its status."""
+        self.close()
+        while part := os.read(self.child.stdout.fileno(), 65536):
+            self.got += part
+        return self.got, self.end()
+
+    def close(self):
+        try:
+            self.child.stdin.close()
+        except BrokenPipeError:
+            pass
+
+    def end(self):
+        """Ends its input and waits for it: its status."""
+        self.close()
+        try:
+            return self.child.wait(GRACE)
+        except subprocess.TimeoutExpired:
+            self.kill()
+            return self.child.wait()
+
+    def kill(self):
+        """Ends it, and what it started, which is all of its session."""
+        if self.child.poll() is None:
+            os.killpg(self.child.pid, signal.SIGKILL)
+
+
+def open_module(module, secret):
+    """Opens a module that nobody has opened yet: whether it says that it is open."""
+    return module.answer(b"10" + secret.hex().encode()) == b"90"
+
+
+def carry(keeper, module, wish, heed=lambda line, reply: reply):
+    """Carries a wish through: what the keeper tells in the end. `heed` sees each line with its reply, and gives the reply that
+    is handed on."""
+    said = keeper.answer(wish)
+    while not said.startswith(b"# "):
+        said = keeper.answer(heed(said, module.answer(said)))
+    return said
