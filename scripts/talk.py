@@ -5,6 +5,7 @@ A line is handed over and given back as bytes, without its 0A.
 import os
 import pathlib
 import select
+import shutil
 import signal
 import subprocess
 
@@ -113,3 +114,56 @@ def carry(keeper, module, wish, heed=lambda line, reply: reply):
     while not said.startswith(b"# "):
         said = keeper.answer(heed(said, module.answer(said)))
     return said
+
+
+# ── conversations worked out by hand ──
+
+
+class Otherwise(Exception):
+    """Keeper or module said something else than was worked out."""
+
+
+class Replay:
+    """Plays a conversation of sessions/*.talk with keeper and module; sessions/kept_by_hand.py says what its lines are. The stores
+    are made in a folder, under the names that the conversation gives them."""
+
+    def __init__(self, folder, patience=None):
+        self.folder, self.patience = pathlib.Path(folder), patience
+        self.module = Program("module", module_command(), patience)
+        self.keeper, self.store = None, None
+
+    def play(self, text, after=lambda verb, words: None):
+        """`after` is called behind each line of the conversation."""
+        said = None  # by the keeper, and not yet looked at
+        for number, line in enumerate(text.splitlines(), 1):
+            verb, _, words = line.partition(" ")
+            if verb in ("copy", "start"):
+                getattr(self, verb)(*words.split(" "))
+            elif verb == "wish":
+                said = self.keeper.answer(words.encode())
+            elif verb in (">", "told"):
+                self.compare(number, "keeper", words if said is None else said.decode("ascii", "replace"), words)
+                replied = self.module.answer(words.encode()).decode("ascii", "replace") if verb == ">" else None
+            elif verb == "<":
+                self.compare(number, "module", replied, words)
+                said = self.keeper and self.keeper.answer(words.encode())
+            after(verb, words)
+        self.end()
+
+    def compare(self, number, name, said, due):
+        if said != due:
+            raise Otherwise(f"line {number} of the conversation: the {name} says {said[:100]}, and worked out is {due[:100]}")
+
+    def copy(self, name):
+        shutil.copy(self.folder / self.store, self.folder / name)
+
+    def start(self, name, counter):
+        if self.keeper:
+            self.keeper.end()
+        self.keeper, self.store = Program("keeper", keeper_command(self.folder / name), self.patience), name
+        self.compare(0, "keeper", self.keeper.answer(b"counter " + counter.encode()).decode("ascii", "replace"), "# done")
+
+    def end(self):
+        for program in (self.keeper, self.module):
+            if program:
+                program.end()
