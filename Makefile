@@ -10,11 +10,13 @@ demo: ## builds what is needed, and plays the accident that the module prevents
 test: ## runs every test, then every proof from nothing; the last line is `N passed, 0 failed`
 	@scripts/test
 
-build: ## proves and builds the program of bin/knotcinder, and builds that of bin/explain
+build: ## proves and builds the programs of bin/knotcinder and bin/keeper, and builds that of bin/explain
 	@scripts/build-program knotcinder
+	@scripts/build-program keeper
 	@bin/explain </dev/null
 
-bench: ## times the proved digest beside a plain Rust one
+bench: ## times the keeper beside the second one, and the proved digest beside a plain Rust one
+	@scripts/bench-keeper
 	@scripts/bench-digest
 
 stack: ## says how much stack the module and its digest take, and by which calls, out of the compiled code
