@@ -13,7 +13,7 @@ ROOT = pathlib.Path(__file__).resolve().parent.parent
 MADE = ROOT / "reference" / "target" / "release"
 COMMITTING = (b"0b", b"0c", b"0d")  # adopt, set and clear: the kinds of line by which the module changes
 COUNTED = (b"8c", b"8d")  # the replies of set and clear, which end in the counter
-GRACE = 10  # seconds for a program to end by itself once its input has
+GRACE = 3  # seconds for a program to end by itself once its input has
 
 
 def module_command():
