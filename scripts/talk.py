@@ -8,6 +8,7 @@ import select
 import shutil
 import signal
 import subprocess
+import sys
 
 ROOT = pathlib.Path(__file__).resolve().parent.parent
 MADE = ROOT / "reference" / "target" / "release"
@@ -24,6 +25,16 @@ def module_command():
 def keeper_command(store):
     """The keeper on a store: KEEPER, or the proved one."""
     return [os.environ.get("KEEPER") or str(ROOT / "bin" / "keeper"), str(store)]
+
+
+def build():
+    """Sees that the programs are built, so that no test takes the building for a program that hangs; ends where they cannot be."""
+    scripts = ROOT / "scripts"
+    commands = [[scripts / "build-reference"]]
+    commands += [[scripts / "build-program", name] for name, other in (("keeper", "KEEPER"), ("knotcinder", "MODULE")) if not os.environ.get(other)]
+    for command in commands:
+        if status := subprocess.run(command).returncode:
+            sys.exit(status)
 
 
 def ended_how(status):
