@@ -3,6 +3,8 @@
 ghost use mathlib.Core.Path.{_≡_};
 ghost use Prim.Native.Nat.{_≤_};
 ghost use lib.ListN.{length};
+ghost use Rattle.seqs.specs.Choose.{pick};
+ghost use Rattle.seqs.specs.Over.{written};
 ghost use Rattle.store.specs.Texts.{textOf};
 ghost use Rattle.rows.specs.Rows.{rowsFrom};
 
@@ -64,14 +66,17 @@ fn write_store(leaves: &[u64], count: usize, bytes: &[u8], path: &[u8], other: &
     sync_folder(path)
 }
 
-fn keep_changed(leaves: &[u64], count: usize, text: &mut [u8], path: &[u8], other: &[u8]) -> bool {
+fn keep_changed(leaves: &[u64], count: usize, text: &mut [u8], path: &[u8], other: &[u8]) -> bool
+    ensures { λ _. ⌜ now (text .exit) ≡ written (textOf (rowsFrom (now (leaves .entry)) count 0)) (now (text .entry)) ⌝ }
+{
     if store::save(leaves, count, text) {
         return write_store(leaves, count, &text[0..store::LINE * count], path, other);
     }
     false
 }
 
-// The leaves of memory on disk, in place of what the store held, where they changed: whether the store is as memory is.
+// The leaves of memory on disk, in place of what the store held, where they changed: whether the store is as memory is. Of the disk the
+// contract can say nothing; `text` is where the store's bytes are made.
 pub fn keep(
     changed: bool,
     leaves: &[u64],
@@ -79,7 +84,10 @@ pub fn keep(
     text: &mut [u8],
     path: &[u8],
     other: &[u8],
-) -> bool {
+) -> bool
+    ensures { λ _. ⌜ now (text .exit) ≡ pick changed (written (textOf (rowsFrom (now (leaves .entry)) count 0)) (now (text .entry)))
+        (now (text .entry)) ⌝ }
+{
     if changed {
         return keep_changed(leaves, count, text, path, other);
     }

@@ -1,8 +1,11 @@
 // The store as the program starts: read whole, judged, and its leaves put into memory; or told what is wrong with which line.
 use memory::Loaded;
 use store::Lines;
+ghost use mathlib.Core.Path.{_≡_};
 ghost use Prim.Native.Nat.{_≤_};
 ghost use lib.ListN.{length};
+ghost use Rattle.keeper.specs.declared.loading.Opened.the-variants.{Shut};
+ghost use Rattle.keeper.specs.Opening.{OpenedAs};
 
 // So many leaves are held, or the store could not be loaded, which was told.
 pub enum Opened {
@@ -18,12 +21,16 @@ struct Filled {
 
 // ── what is told ──
 
-fn tell_unreadable() -> Opened {
+fn tell_unreadable() -> Opened
+    ensures { λ r. ⌜ r ≡ Shut ⌝ }
+{
     io::write_all(1, b"# store cannot be read\n");
     Opened::Shut
 }
 
-fn tell_many() -> Opened {
+fn tell_many() -> Opened
+    ensures { λ r. ⌜ r ≡ Shut ⌝ }
+{
     io::write_all(1, b"# store has more than 1024 lines\n");
     Opened::Shut
 }
@@ -37,14 +44,18 @@ fn plus(a: usize, b: usize) -> usize {
     }
 }
 
-fn tell_line(i: usize) -> Opened {
+fn tell_line(i: usize) -> Opened
+    ensures { λ r. ⌜ r ≡ Shut ⌝ }
+{
     io::write_all(1, b"# store line ");
     io::print_decimal(1, plus(i, 1) as u64);
     io::write_all(1, b" cannot be read\n");
     Opened::Shut
 }
 
-fn tell_pair(i: usize, j: usize) -> Opened {
+fn tell_pair(i: usize, j: usize) -> Opened
+    ensures { λ r. ⌜ r ≡ Shut ⌝ }
+{
     io::write_all(1, b"# store lines ");
     io::print_decimal(1, plus(i, 1) as u64);
     io::write_all(1, b" and ");
@@ -77,6 +88,7 @@ fn fill(fd: i32, buffer: &mut [u8]) -> Filled
 // bytes, so that a buffer full of them ends where a line does.
 fn judge_long(fd: i32, text: &[u8], more: &mut [u8], read: usize) -> Opened
     requires { ⌜ read ≤ length (now more) ⌝ }
+    ensures { λ r. ⌜ r ≡ Shut ⌝ }
 {
     let mut before: usize = 0;
     match store::count_lines(text) {
@@ -107,7 +119,9 @@ fn judge_long(fd: i32, text: &[u8], more: &mut [u8], read: usize) -> Opened
     tell_many()
 }
 
-fn load(text: &[u8], leaves: &mut [u64], nodes: &mut [u8]) -> Opened {
+fn load(text: &[u8], leaves: &mut [u64], nodes: &mut [u8]) -> Opened
+    ensures { λ r. ⌜ OpenedAs r (now (leaves .entry)) (now (nodes .entry)) (now (leaves .exit)) (now (nodes .exit)) ⌝ }
+{
     match memory::load(text, leaves, nodes) {
         Loaded::Held(k) => Opened::Holding(k),
         Loaded::Stopped(i) => tell_line(i),
@@ -123,7 +137,9 @@ fn open_read(
     more: &mut [u8],
     leaves: &mut [u64],
     nodes: &mut [u8],
-) -> Opened {
+) -> Opened
+    ensures { λ r. ⌜ OpenedAs r (now (leaves .entry)) (now (nodes .entry)) (now (leaves .exit)) (now (nodes .exit)) ⌝ }
+{
     let first = fill(fd, text);
     if first.failed {
         return tell_unreadable();
@@ -140,14 +156,17 @@ fn open_read(
     judge_long(fd, text, more, m)
 }
 
-// A missing store is an empty one.
+// A missing store is an empty one. What is held is what some text loads to, and where the store is shut memory is as it was; that the
+// text is the file's, and what then stands in the two buffers, is for the system to see to.
 pub fn open(
     path: &[u8],
     text: &mut [u8],
     more: &mut [u8],
     leaves: &mut [u64],
     nodes: &mut [u8],
-) -> Opened {
+) -> Opened
+    ensures { λ r. ⌜ OpenedAs r (now (leaves .entry)) (now (nodes .entry)) (now (leaves .exit)) (now (nodes .exit)) ⌝ }
+{
     let fd = os::open_read(path);
     if fd < 0 {
         if os::errno() == libc::ENOENT {
