@@ -16,8 +16,9 @@ use Rattle.runs.proofs.Reach.{Ready}
 use Rattle.runs.proofs.Live.{sha256-bytes}
 use Rattle.wishes.specs.declared.Wish.{Wish}
 use Rattle.wishes.specs.declared.Wish.the-variants.{Insert, Remove, Set, Clear, Ask}
+use Rattle.hearing.specs.Hearing.{accepts, notAwaited, leavesHeard, nodesHeard, heardFrom}
 use Rattle.keeping.specs.Talking.{Tablet, setOut, Conversed, converse}
-use Rattle.keeping.specs.Granting.{WishFits, mostLines, begins, Grants, Together, StartTogether, KeepsHonestly, HonestKeeper}
+use Rattle.keeping.specs.Granting.{WishFits, mostLines, begins, Grants, Together, StartTogether, OtherRepliesTold, KeepsHonestly, HonestKeeper}
 use Rattle.keeping.proofs.Allowed.{no-word, below-top}
 use Rattle.keeping.proofs.Questions.{ask-granted}
 use Rattle.keeping.proofs.Records.{set-granted, clear-granted}
@@ -88,6 +89,11 @@ start-together D s x rs opened narrow holds root counter =
       agrees = record { rows = rs; holds = holds; items = refl; root = root; counter = counter };
     }
 
+-- a line that is not awaited
+other-told : (D : List ℕ → Dig) → OtherRepliesTold D
+unfolding heardFrom notAwaited leavesHeard nodesHeard accepts
+other-told D u l e = rw e (refl, refl)
+
 keeps-honestly : (D : List ℕ → Dig) → ((l : List ℕ) → length (D l) ≡ 32) → ((l : List ℕ) → Bytes (D l)) → KeepsHonestly D
 keeps-honestly D D32 DB =
     record {
@@ -96,6 +102,7 @@ keeps-honestly D D32 DB =
           let g = granted D D32 DB w x t v fits e n enough in
           record { grants = g; together = together-again D D32 DB w x t v e _ g };
       refuses-just = refuses-just D;
+      other-replies = other-told D;
     }
 
 pub honest-keeper : HonestKeeper

@@ -1,10 +1,12 @@
 -- What a wish comes to that the tablet does not refuse: its lines, each answered by the module and its reply heard, are honest lines of
 -- `runs` that do just the wish, and afterwards tablet and module agree again.
 use mathlib.Core.Path.{_≡_}
-use mathlib.Core.Bool.{true}
+use mathlib.Core.Bool.{true, false}
 use mathlib.Core.List.{List, []}
 use Prim.Native.Nat.{ℕ, _≤_, _<_}
+use lib.Dec.{eqb}
 use lib.ListN.{length}
+use Rattle.seqs.specs.Choose.{pick}
 use Rattle.seqs.specs.Bytes.{Bytes}
 use Rattle.sha256.specs.Hash.{sha256}
 use Rattle.paper.specs.declared.Registers.{Registers}
@@ -23,8 +25,9 @@ use Rattle.wishes.specs.declared.Wish.{Wish}
 use Rattle.wishes.specs.declared.Wish.the-variants.{Insert, Remove, Set, Clear, Ask}
 use Rattle.plans.specs.declared.Begun.{Begun}
 use Rattle.plans.specs.Plans.{begunFor}
+use Rattle.hearing.specs.Awaiting.{asAwaited, refusalIn}
 use Rattle.holding.specs.Holding.{Holds}
-use Rattle.keeping.specs.Talking.{Tablet, setOut, Conversed, converse}
+use Rattle.keeping.specs.Talking.{Tablet, Underway, setOut, hears, Conversed, converse}
 use Rattle.keeping.specs.Agreeing.{Agrees}
 
 -- the tablet's wish as `runs` has it
@@ -113,10 +116,18 @@ module _ (D : List ℕ → Dig) where
     pub allowed : (w : World) (x : Tablet) → Together w x → (v : Wish) → LegalWish (w .items) (wishOf v) → Within w x v
         → begins x v .word ≡ 0
 
+  -- Any line that is not the reply awaited, whatever its bytes, ends the wish and changes nothing of the tablet: told as the module's
+  -- refusal (2) where it is one, and else as something that the module should not have said (3).
+  abbrev pub OtherRepliesTold : Type 0
+  OtherRepliesTold =
+      (u : Underway) (l : List ℕ) → asAwaited (u .talk) l ≡ false
+      → (hears D u l .tablet ≡ u .tablet) × (hears D u l .end ≡ pick (eqb (refusalIn l) 0) 3 2)
+
   pub record KeepsHonestly : Type 0 where
     pub anywhere : StartTogether
     pub every-wish : EveryWishGranted
     pub refuses-just : RefusesJust
+    pub other-replies : OtherRepliesTold
 
 -- for SHA-256, and for any digest of 32 bytes
 pub record HonestKeeper : Type 0 where
