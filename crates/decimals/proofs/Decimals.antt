@@ -1,20 +1,19 @@
 -- One digit more of a number, and the digit by which it is none.
 use mathlib.Core.Path.{_≡_, refl, ap, _∙_}
-use mathlib.Core.Bool.{Bool, true, false}
+use mathlib.Core.Bool.{true, false}
 use mathlib.Core.List.{List, [], _∷_}
 use mathlib.Core.Logic.{_≢_}
-use Prim.Native.Nat.{ℕ, zero, suc, _+_, _-_, _*_, _/_, _^_, _<_, _≤_}
-use native.Mathlib.Nat.{not-suc-le-zero}
+use Prim.Native.Nat.{ℕ, zero, suc, _+_, _-_, _*_, _^_, _<_, _≤_}
 use native.Mathlib.Numerals.{add-one}
 use native.Mathlib.Omega.{arith}
 use borrow.Author.Tests.{le-leb, lt-leb, lt-ltb, le-ltb, eq-eqb, ne-eqb}
 use lib.Dec.{ltb}
 use lib.ListN.{length, getD, drop, drop-of-length-le}
 use lib.Seq.{drop-cons}
-use Rattle.seqs.specs.Choose.{pick, both, both-no, opposite}
+use Rattle.seqs.specs.Choose.{both, both-no}
 use Rattle.decimals.specs.declared.Decimal.{Decimal}
 use Rattle.decimals.specs.declared.Decimal.the-variants.{Number, NoNumber}
-use Rattle.decimals.specs.Decimals.{isDecimal, allDecimal, numeralFrom, plainly, digitsIn, decimalIn}
+use Rattle.decimals.specs.Decimals.{isDecimal, allDecimal, numeralFrom, digitsIn, decimalIn}
 
 -- digits behind n make no less than n
 no-less : (l : List ℕ) (n : ℕ) → n ≤ numeralFrom n l

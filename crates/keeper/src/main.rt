@@ -7,7 +7,7 @@ use loading::Opened;
 use pieces::Cut;
 use turns::Desk;
 ghost use mathlib.Core.Path.{_≡_};
-ghost use Prim.Native.Nat.{_<_, _≤_};
+ghost use Prim.Native.Nat.{_≤_};
 ghost use lib.ListN.{length};
 ghost use Rattle.sha256.specs.Hash.{sha256};
 ghost use Rattle.turns.specs.Turns.{turnOf, leavesAfter, nodesAfter};

@@ -2,7 +2,7 @@
 use mathlib.Core.Path.{_≡_, refl, sym, ap, subst, _∙_}
 use mathlib.Core.Logic.{_≢_}
 use mathlib.Core.Bool.{Bool, true, false}
-use mathlib.Core.List.{List, [], _∷_, _++_}
+use mathlib.Core.List.{List, [], _++_}
 use Prim.Native.Nat.{ℕ, _+_, _-_, _<_, _≤_}
 use native.Mathlib.Omega.{arith}
 use borrow.Author.Tests.{eq-eqb, ne-eqb, le-leb, lt-leb}
@@ -10,9 +10,8 @@ use lib.Dec.{eqb}
 use lib.ListN.{length, take, drop, replicate}
 use lib.Seq.{take-at}
 use Rattle.seqs.specs.Choose.{pick}
-use Rattle.seqs.specs.Over.{putAt, written, written-fits, written-not}
+use Rattle.seqs.specs.Over.{putAt, written, written-fits}
 use Rattle.sha256.specs.Hash.{sha256}
-use Rattle.paper.specs.declared.Revision.{Revision}
 use Rattle.paper.specs.Strings.{Dig}
 use Rattle.wishes.specs.declared.Wish.{Wish}
 use Rattle.wishes.specs.declared.Wish.the-variants.{Ask}

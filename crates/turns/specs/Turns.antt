@@ -1,6 +1,6 @@
 -- The keeper's turns: what a line leads to, and the line that goes out for it.
 use mathlib.Core.Bool.{Bool, true, false}
-use mathlib.Core.List.{List, []}
+use mathlib.Core.List.{List}
 use Prim.Native.Nat.{ℕ}
 use lib.Dec.{eqb}
 use Rattle.seqs.specs.Choose.{pick}

@@ -12,13 +12,8 @@ use wishes::Wish;
 use words::Telling;
 use words::Word;
 ghost use mathlib.Core.Path.{_≡_};
-ghost use mathlib.Core.List.{[]};
-ghost use lib.ListN.{length};
 ghost use Rattle.sha256.specs.Hash.{sha256};
-ghost use Rattle.seqs.specs.Over.{written};
 ghost use Rattle.paper.specs.Answers.{findingOf};
-ghost use Rattle.words.specs.Telling.{told};
-ghost use Rattle.asking.specs.Saying.{fittingLength};
 ghost use Rattle.turns.specs.Turns.{atRest, finishedOf, outcomeOf, telling, sending, onBegun, onWord, onHeard, turnOf, leavesAfter, nodesAfter};
 ghost use Rattle.turns.specs.Saying.{SaidAs};
 

@@ -1,5 +1,4 @@
 -- Wishes as people write them: a name and its numbers, decimal, one space between any two.
-use mathlib.Core.Bool.{Bool, true, false}
 use mathlib.Core.List.{List, [], _∷_, _++_}
 use Prim.Native.Nat.{ℕ}
 use lib.Dec.{eqb}

@@ -1,6 +1,6 @@
 -- After i turns the first i digits are read, and are n.
 use mathlib.Core.Path.{sym}
-use Prim.Native.Nat.{_+_, _-_, _*_, _^_, _<_, _≤_}
+use Prim.Native.Nat.{_-_, _^_, _<_, _≤_}
 use native.Mathlib.Omega.{arith}
 use lib.ListN.{length}
 use Rattle.decimals.proofs.Decimals.{Read, read-none, read-next, below-digits, above-digits, too-large, read-all}

@@ -1,6 +1,6 @@
 -- At place i the digits behind it are there, and those of the rest come in front.
 use mathlib.Core.Path.{refl}
-use Prim.Native.Nat.{_+_, _-_, _<_, _≤_}
+use Prim.Native.Nat.{_-_, _<_}
 use native.Mathlib.Omega.{arith}
 use Rattle.decimals.proofs.Spelling.{Spelled, spelled-none, room, spelled-next, spelled-all}
 use borrow.Author.Needs.{needs}

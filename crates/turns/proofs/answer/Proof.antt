@@ -1,5 +1,4 @@
 -- A reply where one is awaited, and else a line of a person.
-use mathlib.Core.Path.{refl, sym, _∙_}
 use Rattle.sha256.specs.Hash.{sha256}
 use Rattle.turns.specs.Turns.{leavesAfter, nodesAfter}
 use Rattle.turns.proofs.Laws.{said-as, turn-heard, turn-asked}

@@ -1,5 +1,4 @@
 -- By the word: the first line goes out, or the wish is refused.
-use mathlib.Core.Path.{sym}
 use Rattle.turns.proofs.Laws.{said-as, begun-on, begun-refused}
 use borrow.Author.Needs.{needs}
 use Rattle.turns.proofs.begin.Statement.{statement}

@@ -1,13 +1,10 @@
 -- Two words byte by byte.
 use mathlib.Core.Path.{_≡_, refl, sym, _∙_}
 use mathlib.Core.Bool.{false}
-use mathlib.Core.List.{List, [], _∷_}
-use mathlib.Core.Logic.{_≢_}
-use Prim.Native.Nat.{_+_, _-_, _≤_}
+use Prim.Native.Nat.{_-_, _≤_}
 use native.Mathlib.Omega.{arith}
 use borrow.Author.Tests.{eq-eqb, ne-eqb}
 use lib.ListN.{length, drop}
-use Rattle.seqs.specs.Choose.{both-no}
 use Rattle.seqs.specs.Bytes.{same, same-step, same-end}
 use borrow.Author.Needs.{needs}
 use Rattle.words.proofs.Cuts.{not-same}

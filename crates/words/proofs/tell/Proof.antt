@@ -2,7 +2,6 @@
 use mathlib.Core.Path.{sym, _∙_}
 use Prim.Native.Nat.{_≤_}
 use native.Mathlib.Omega.{arith}
-use lib.ListN.{length}
 use Rattle.seqs.specs.Over.{written-fits}
 use Rattle.words.specs.Telling.{told, toldText, ended}
 use borrow.Author.Needs.{needs}
