@@ -1,5 +1,7 @@
 // A request's checks, made one after the other: one value goes through them and becomes the outcome. A kind calls `begin_open`,
 // then one function for each check of its row of the table, in the row's order, and ends with `issue` or `finish`.
+#![tactic(auto)]
+
 ghost use Rattle.std.specs.Prelude.{◌≡◌, []};
 ghost use Rattle.seqs.specs.Choose.{opposite};
 ghost use Rattle.seqs.specs.Bytes.{same};
@@ -13,7 +15,7 @@ use std::num::wrapping_add_u64;
 
 // Whether a check failed, the number of the last check that was made, and the blocks worked so far. They are counted modulo
 // 2^64: no request comes near that, and so no sum here asks anything of its caller.
-#[derive(Drop)]
+#[derive(Clone, Copy)]
 pub struct Judged {
     pub stopped: bool,
     pub number: u8,

@@ -1,4 +1,6 @@
 // One frame on registers by value: the frame's own checks, and the function of its kind.
+#![tactic(auto)]
+
 ghost use Rattle.std.specs.Prelude.{◌≡◌, ◌*◌, ◌≤◌, take};
 ghost use Rattle.sha256.specs.Hash.{sha256};
 ghost use Rattle.paper.specs.Requests.{digests_in};

@@ -1,5 +1,7 @@
 // Kinds 0b to 0d and 10: what changes the module's own root, counter and secret. Each function answers a frame of its kind, on
 // registers by value.
+#![tactic(auto)]
+
 ghost use Rattle.std.specs.Prelude.{◌≡◌, [], ◌++◌, ◌+◌};
 ghost use Rattle.seqs.specs.Bytes.{be64};
 ghost use Rattle.paper.specs.Answers.{raised};
@@ -45,7 +47,7 @@ pub fn adopt(r: Registers, f: &[u8]) -> Outcome
 }
 
 // What a set or a clear leaves.
-#[derive(Drop)]
+#[derive(Clone, Copy)]
 enum Change {
     Set(Values),
     Clear,

@@ -1,4 +1,6 @@
 // The module: a line in, a reply line out.
+#![tactic(auto)]
+
 ghost use Rattle.std.specs.Prelude.{◌≡◌};
 ghost use Rattle.sha256.specs.Hash.{sha256};
 ghost use Rattle.paper.specs.Refusals.{reply_room};
@@ -14,7 +16,7 @@ use replies::Outcome;
 
 // What a line came to: the registers after it, the number of its refusal or 0, how many bytes of the reply space are
 // its reply, and the blocks worked.
-#[derive(Drop)]
+#[derive(Clone, Copy)]
 pub struct Answered {
     pub registers: Registers,
     pub refused: u8,
@@ -24,7 +26,7 @@ pub struct Answered {
 
 // What a line came to where the registers lie: the number of its refusal or 0, how many bytes of the reply space are
 // its reply, and the blocks worked.
-#[derive(Drop)]
+#[derive(Clone, Copy)]
 pub struct Replied {
     pub refused: u8,
     pub length: usize,

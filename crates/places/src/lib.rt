@@ -1,6 +1,8 @@
 // A frame's fields where its kind's row of the table puts them: behind the kind's byte numbers, then a record, then a set's
 // values, then digests, as far as the row has them; a path's n, sides and siblings behind its two digests. Every function is
 // total: a byte that is not there counts as 0.
+#![tactic(auto)]
+
 ghost use Rattle.std.specs.Prelude.{◌≡◌};
 ghost use Rattle.paper.specs.Requests.{record_in, values_in};
 ghost use Rattle.places.specs.Places.{bytes_at, item_in, digest_in};

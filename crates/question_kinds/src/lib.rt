@@ -1,4 +1,6 @@
 // Kinds 0e and 0f: questions. Each function answers a frame of its kind, on registers by value, and changes none.
+#![tactic(auto)]
+
 ghost use Rattle.std.specs.Prelude.{◌≡◌, [], eqb};
 ghost use Rattle.seqs.specs.Choose.{either};
 ghost use Rattle.paper.specs.Strings as S;
@@ -28,7 +30,7 @@ pub fn ask_none(r: Registers, f: &[u8]) -> Outcome
 }
 
 // An ask's reply: exactly one of three findings, and the blocks worked for it.
-#[derive(Drop)]
+#[derive(Clone, Copy)]
 struct AskReply {
     finding: Finding,
     blocks: u64,

@@ -1,4 +1,6 @@
 // What a request comes to: its refusal or answer, as values.
+#![tactic(auto)]
+
 ghost use Rattle.std.specs.Prelude.{◌≡◌};
 ghost use Rattle.replies.specs.Outcomes.{refusal, answer_length, acceptance};
 
@@ -9,7 +11,7 @@ const ROOM: usize = 97;
 
 // The registers after it, the reply's bytes over zero bytes, how many they are, the refusal's number or 0, and the
 // blocks worked.
-#[derive(Drop)]
+#[derive(Clone, Copy)]
 pub struct Outcome {
     pub registers: Registers,
     pub reply: [u8; ROOM],

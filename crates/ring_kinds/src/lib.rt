@@ -1,4 +1,6 @@
 // Kinds 06 to 0a: which roots stand for equally good rings. Each function answers a frame of its kind, on registers by value.
+#![tactic(auto)]
+
 ghost use Rattle.std.specs.Prelude.{◌≡◌};
 ghost use Rattle.sha256.specs.Hash.{sha256};
 ghost use Rattle.paper.specs.Refusals.{first_memo, place_forms, place_says};

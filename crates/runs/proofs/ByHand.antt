@@ -49,15 +49,18 @@ record_in (item_with A r) = r
 no_other : {A : ℕ} {r : Record} → A ≢ 5 → A ≢ 9 → OnList A r small → ⊥
 no_other n m (Memᴰ.head e) = n (ap number_in e)
 no_other n m (Memᴰ.tail (Memᴰ.head e)) = m (ap number_in e)
+no_other {A = A} {r = r} n m (Memᴰ.tail (Memᴰ.tail x8)) = elim x8 [ ]
 
 -- the only record that an item has, and its numbers
 only_at_5 : {r : Record} → OnList 5 r small → r ≡ empty_record
 only_at_5 (Memᴰ.head e) = ap record_in e
 only_at_5 (Memᴰ.tail (Memᴰ.head e)) = absurd (omega (arith, ap number_in e))
+only_at_5 {r = r} (Memᴰ.tail (Memᴰ.tail x8)) = elim x8 [ ]
 
 only_at_9 : {r : Record} → OnList 9 r small → r ≡ rotor
 only_at_9 (Memᴰ.head e) = absurd (omega (arith, ap number_in e))
 only_at_9 (Memᴰ.tail (Memᴰ.head e)) = ap record_in e
+only_at_9 {r = r} (Memᴰ.tail (Memᴰ.tail x8)) = elim x8 [ ]
 
 abbrev revision_of : Record → ℕ
 revision_of r = r.revision.0
@@ -93,6 +96,7 @@ module _ (D : List ℕ → Dig) where
   only_to_9 : {A' : ℕ} → A' ≢ 9 → Neighbours D 5 A' small → ⊥
   only_to_9 n (r, h, Memᴰ.head e) = n (ap to_of e)
   only_to_9 n (r, h, Memᴰ.tail (Memᴰ.head e)) = absurd (omega (arith, ap from_of e))
+  only_to_9 n (r, h, Memᴰ.tail (Memᴰ.tail x9)) = elim x9 [ ]
 
   -- ── the rows ──
 

@@ -59,6 +59,7 @@ module _ (D : List ℕ → Dig) where
   forged_ends : (k : Dig) (ts : List LineTurn) → AnyForged D k ts → Ending D k ts
   forged_ends k (t ∷ ts) (inl f) = by_forgery t f
   forged_ends k (t ∷ ts) (inr x) = earlier t (forged_ends k ts x)
+  forged_ends k [] x' = elim x' [ ]
 
   pub ending_is : EndingIs D
   ending_is k ts =
@@ -69,6 +70,7 @@ module _ (D : List ℕ → Dig) where
   issued_in_lem : (m : Dig) (ms : List Dig) (b : List Issue) → Memᴰ m ms → AllIssued ms b → is_issued m b ≡ true
   issued_in_lem m (n ∷ ms) b (Memᴰ.head e) h = subst (λ (x : Dig). is_issued x b ≡ true) (sym e) h.0
   issued_in_lem m (n ∷ ms) b (Memᴰ.tail i) h = issued_in_lem m ms b i h.1
+  issued_in_lem m [] b x'' h = elim x'' [ ]
 
   -- what an honest line carries was issued, by whichever reading
   not_forged : (v w : World) (t : LineTurn) → Alike v w → AllIssued (carried_memoranda D v.registers (asked t)) v.book

@@ -33,6 +33,7 @@ Well = Every StringFits
 pub well_at : (l : List Str) (s : Str) → Well l → Memᴰ s l → StringFits s
 well_at (t ∷ l) s h (Memᴰ.head e) = subst StringFits (sym e) h.0
 well_at (t ∷ l) s h (Memᴰ.tail m) = well_at l s h.1 m
+well_at [] s h x'' = elim x'' [ ]
 
 pub well_append : (a b : List Str) → Well a → Well b → Well (a ++ b)
 well_append [] b h k = k
@@ -298,8 +299,8 @@ module _ (D : List ℕ → Dig) (D32 : (l : List ℕ) → length (D l) ≡ 32) w
         by_forms (none_at_all e) = e kind
         by_forms (of_checks e h) = ap (λ (v : Verdict). (told_by D s kind q v).formed) (e o)
 
-    pub well_formed : (kind : ℕ) (q : Request) → InEightBytes s.counter.0 → Is32 key → Wide q → Well (answered s kind q).formed
-    well_formed kind q c k w = by_forms (forms q c w)
+    pub well_formed_lem : (kind : ℕ) (q : Request) → InEightBytes s.counter.0 → Is32 key → Wide q → Well (answered s kind q).formed
+    well_formed_lem kind q c k w = by_forms (forms q c w)
       where
         by_verdict : (v : Verdict) → Well (formed_by v) → Well (told_by D s kind q v).formed
         by_verdict (refused_by n fs) h = h

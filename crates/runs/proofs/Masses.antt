@@ -1,7 +1,7 @@
 -- A mass that is not silly, by its bounds. And no record on a run's list has a silly one: only a set puts a record there that stands for
 -- one, and no set is accepted but past check 16.
 use mathlib.Core.Path.{◌≡◌, refl, sym, subst, ◌∙◌}
-use mathlib.Core.Bool.{Bool, true, false, true≢false}
+use mathlib.Core.Bool.{false, true≢false}
 use mathlib.Core.List.{List, [], ◌∷◌}
 use Prim.Native.Nat.{ℕ, ◌≤◌}
 use native.Mathlib.Decide.{dec_le}
@@ -18,7 +18,7 @@ use Rattle.paper.proofs.Verdicts.{the_one}
 use Rattle.rings.specs.Changes.{Step, insertion, removal, do_steps}
 use Rattle.rings.specs.Meanings.{AllRecords}
 use Rattle.rings.proofs.Items.{record_at, insert_all, remove_all, put_all}
-use Rattle.runs.specs.Run.{LineTurn, Items, World, of_runs, steps_for, replayed, told_at, next, after}
+use Rattle.runs.specs.Run.{LineTurn, Items, World, of_runs, steps_for, replayed, next, after}
 use Rattle.runs.specs.Sizes.{SensibleMass}
 use Rattle.runs.specs.Also.{MassesSensible}
 use Rattle.runs.proofs.Accepted.{NoneApplies}

@@ -53,7 +53,7 @@ module _ {D : List ℕ → Dig} {w : World} {T : Tree} (g : Ground D w T) where
     record_same : record_of A w.items ≡ r
     numbered : eqb A 0 ≡ false
     next_numbered : eqb (next_of (found (is_of A) T)) 0 ≡ false
-    at_root_lem : opposite (same (at_root A new).was s.root) ≡ false
+    was_root : opposite (same (at_root A new).was s.root) ≡ false
     digests : AllDigests ((at_root A new).was ∷ (at_root A new).becomes ∷ note D s (say_u1 (at_leaf A new) (at_root A new)) ∷ [])
     fits : none_fits D s.secret (say_u1 (at_leaf A new) (at_root A new) ∷ []) (note D s (say_u1 (at_leaf A new) (at_root A new)))
         ≡ false
@@ -75,7 +75,7 @@ module _ {D : List ℕ → Dig} {w : World} {T : Tree} (g : Ground D w T) where
         record_same = k;
         numbered = not_zero_lem A (above_zero g A r m);
         next_numbered = not_zero_lem _ t.next_positive;
-        at_root_lem = at_root_lem _ s.root
+        was_root = at_root_lem _ s.root
             (ap (rise D p) (item_digest g A r m (is_of A) t (eqb-true A _ t.passes)) ∙ t.to_root);
         digests = rise_digest DD p e.was (DD _) and rise_digest DD p e.becomes (DD _)
             and note_digest g.ready (say_u1 e (risen D p e)) and tt;
@@ -100,7 +100,7 @@ module _ {D : List ℕ → Dig} {w : World} {T : Tree} (g : Ground D w T) where
       (leads_one D (at w h.formed h.book) (Q.set_to A _ _ v _ _ _)
       (u.item.number_fits, u.spot.next_fits, u.item.record_fits, fit, u.digests)
       (is_open_lem g.ready and u.numbered and u.next_numbered and u.item.well_formed and not_silly_lem v.mass.0 mass
-      and not_at_top s.counter.0 below and u.fits and u.at_root_lem and tt)
+      and not_at_top s.counter.0 below and u.fits and u.was_root and tt)
       (h.got, tt))))
 
   pub clear_brings : (A : ℕ) (r : Record) → OnList A r w.items → blank r ≡ false → s.counter.0 < top
@@ -114,5 +114,5 @@ module _ {D : List ℕ → Dig} {w : World} {T : Tree} (g : Ground D w T) where
       (leads_one D (at w h.formed h.book) (Q.clear A _ _ _ _ _)
       (u.item.number_fits, u.spot.next_fits, u.item.record_fits, u.digests)
       (is_open_lem g.ready and u.numbered and u.next_numbered and u.item.well_formed
-      and (ap blank u.record_same ∙ recorded) and not_at_top s.counter.0 below and u.fits and u.at_root_lem and tt)
+      and (ap blank u.record_same ∙ recorded) and not_at_top s.counter.0 below and u.fits and u.was_root and tt)
       (h.got, tt))))

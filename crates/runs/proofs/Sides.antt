@@ -22,7 +22,7 @@ use Rattle.runs.specs.Safety.{Untouched}
 use Rattle.runs.proofs.Accepted.{NoneApplies}
 use Rattle.runs.proofs.Lines.{asked, kind_in, Sorted, refusal, acceptance, sorted}
 use Rattle.runs.proofs.Widths.{Is32, Wide}
-use Rattle.runs.proofs.Formed.{Well, well_append, below_top_lem, closed_forms, well_formed}
+use Rattle.runs.proofs.Formed.{Well, well_append, below_top_lem, closed_forms, well_formed_lem}
 use Rattle.runs.proofs.Book.{entered_none}
 
 module _ (D : List ℕ → Dig) (D32 : (l : List ℕ) → length (D l) ≡ 32) where
@@ -137,7 +137,7 @@ module _ (D : List ℕ → Dig) (D32 : (l : List ℕ) → length (D l) ≡ 32) w
       where
         by_open : (b : Bool) → s.opened ≡ b → Well (told_by D s kind q u).formed
         by_open true o =
-            subst (λ (v : Verdict). Well (told_by D s kind q v).formed) e (well_formed D D32 s kind q small (keyed o) h)
+            subst (λ (v : Verdict). Well (told_by D s kind q v).formed) e (well_formed_lem D D32 s kind q small (keyed o) h)
         by_open false o = subst Well (sym (read_shut u e o)) tt
 
   line_side : (by : BookReading) (k : Dig) (w : World) (t : LineTurn) → Side k w → Side k (next D by w t)

@@ -1,5 +1,7 @@
 // A session: lines in, reply lines out, on registers that go by value from line to line.
 // A program that is given its input in pieces calls `serve` on each until it is used up, and `finish` at the end.
+#![tactic(auto)]
+
 ghost use Rattle.std.specs.Prelude.{◌≡◌, ◌≤◌, min, length, take};
 ghost use Rattle.paper.specs.Strings.{nought};
 ghost use Rattle.paper.specs.Module.{unopened};
@@ -11,7 +13,7 @@ use pieces::Cut;
 
 // Where serving a piece came to: the registers, the place in the piece where the rest begins, how many bytes are held
 // of the line that is not whole yet, and how many bytes of the output are replies.
-#[derive(Drop)]
+#[derive(Clone, Copy)]
 pub struct Served {
     pub registers: Registers,
     pub next: usize,

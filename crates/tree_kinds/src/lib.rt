@@ -1,5 +1,7 @@
 // Kinds 01 to 05: what stands above what in the tree. Each function answers a frame of its kind, on registers by value; only
 // path takes its fields, as its siblings come in an array that not every frame's n fits.
+#![tactic(auto)]
+
 ghost use Rattle.std.specs.Prelude.{◌≡◌, ◌++◌, ◌≤◌, length, take};
 ghost use Rattle.sha256.specs.Hash.{sha256};
 ghost use Rattle.paper.specs.Strings as S;
