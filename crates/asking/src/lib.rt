@@ -1,5 +1,7 @@
 // The line that the tablet sends at each step of a wish, made of the wish's plan, the memoranda of the last two replies and the nodes
 // in memory, which are only looked at. One function for each sort of line.
+#![tactic(auto)]
+
 ghost use Rattle.std.specs.Prelude.{◌≡◌, [], ◌∷◌, ◌++◌, ◌≤◌, length, get_or, take};
 ghost use Rattle.seqs.specs.Over.{written};
 ghost use Rattle.hexadecimal.specs.Hex.{line_of};
@@ -15,7 +17,7 @@ use slots::{LEVELS, SLOTS};
 mod frames;
 
 // What is kept between the lines of a wish: its plan, how many of its lines were answered, and the memoranda of the last two replies.
-#[derive(Drop)]
+#[derive(Clone, Copy)]
 pub struct Talk {
     pub plan: Plan,
     pub step: u8,
@@ -26,7 +28,7 @@ pub struct Talk {
 // A line of a wish: the path of one leaf; of two leaves the paths to the halves of the lowest node above both, their pair, the path
 // above that node, and both raised to the root; the leaves exchanged, an item taken out, or the first one listed; a memorandum turned
 // round; a root adopted; a record set, or cleared; a leaf witnessed, asked about; a question where nothing is listed; and none.
-#[derive(Drop)]
+#[derive(Clone, Copy)]
 pub enum Part {
     PathWhole,
     PathLeft,
@@ -48,7 +50,7 @@ pub enum Part {
 }
 
 // The longest frame, a path of ten levels, and how many of its bytes a frame has.
-#[derive(Drop)]
+#[derive(Clone, Copy)]
 struct Framed {
     bytes: [u8; 394],
     n: usize,

@@ -1,17 +1,19 @@
 // Numbers as people write them: decimal digits, without a sign and without a 0 in front.
+#![tactic(auto)]
+
 ghost use Rattle.std.specs.Prelude.{◌≡◌, ◌++◌, replicate};
 ghost use Rattle.decimals.specs.Decimals.{decimal_in, digits_in};
 ghost use Rattle.decimals.specs.Spelling.{numeral_of};
 
 // The number that a text is, or none.
-#[derive(Drop)]
+#[derive(Clone, Copy)]
 pub enum Decimal {
     Number(u64),
     NoNumber,
 }
 
 // A number's digits at the end of 20 bytes, which are as many as any has; where they begin; and zeros in front of them.
-#[derive(Drop)]
+#[derive(Clone, Copy)]
 pub struct Numeral {
     pub bytes: [u8; 20],
     pub from: usize,

@@ -1,5 +1,7 @@
 // What changes in the tablet's tree where one leaf does, or two: the digests of the places concerned and of what stands above them, as
 // memory has them and as they will be. Memory is only looked at. A slot that is not there changes nothing.
+#![tactic(auto)]
+
 ghost use Rattle.std.specs.Prelude.{◌≡◌, ◌<◌};
 ghost use Rattle.sha256.specs.Hash.{sha256};
 ghost use Rattle.slots.specs.Nodes.{slot_count, ancestor, meeting};
@@ -8,7 +10,7 @@ ghost use Rattle.edits.specs.Changes.{no_edit, risen_at, at_one, no_place, forke
 use slots::{LEVELS, SLOTS};
 
 // What stands at a place, and what will.
-#[derive(Drop)]
+#[derive(Clone, Copy)]
 pub struct Edit {
     pub was: [u8; 32],
     pub becomes: [u8; 32],
@@ -16,7 +18,7 @@ pub struct Edit {
 
 // What changes in the tree: one slot, or two and how many levels stand below the halves of the lowest node above both; the leaves,
 // those halves, that node and the root. Of one slot there is only the left leaf, and the root.
-#[derive(Drop)]
+#[derive(Clone, Copy)]
 pub struct Change {
     pub left: usize,
     pub right: usize,
@@ -30,7 +32,7 @@ pub struct Change {
 }
 
 // What changes above two leaves: the halves of the lowest node above both, that node, and the root.
-#[derive(Drop)]
+#[derive(Clone, Copy)]
 struct Forked {
     y: Edit,
     z: Edit,

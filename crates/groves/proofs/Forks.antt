@@ -76,11 +76,11 @@ halves_of u v ru rv less =
 module _ (D : List ℕ → Dig) (f g : ℕ → Tree) (u v : ℕ) (ru : OnLevel 10 u) (rv : OnLevel 10 v) (less : u < v)
     (same : (w : ℕ) → w ≢ u → w ≢ v → f w ≡ g w) where
   -- with the ways of f, what g has in both slots rises to the root of g's tree
-  pub fork-rises :
+  pub fork_rises :
       (let k = fork_at f u v in
       rise D k.above (H D (rise D k.left (hash_of D (g u))) (rise D k.right (hash_of D (g v)))) ≡ hash_of D (grove g))
   unfolding grove
-  fork-rises =
+  fork_rises =
       let k = meeting 9 u v in
       let q = halves_of u v ru rv less in
       let t = q.parted in

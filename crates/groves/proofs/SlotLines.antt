@@ -29,7 +29,7 @@ use Rattle.slots.specs.Nodes.{slot_count}
 use Rattle.groves.specs.Grove.{in_slot, slots_of, tree_of}
 use Rattle.groves.specs.SlotLines.{leaf_at, slot_fork, leaves_with, leaves_swapped, leaves_without, insert_at, swap_at, drop_at}
 use Rattle.groves.proofs.Groves.{slot_level}
-use Rattle.groves.proofs.Forks.{fork-rises}
+use Rattle.groves.proofs.Forks.{fork_rises}
 use Rattle.groves.proofs.Stored.{in_past, in_here, slot_is, set_other, append_other, in_append, in_append_last, in_set_same, in_set_other}
 
 by_fields : (x : TreeLeaf) → x ≡ points (item_of x) (next_of x) (hash_in x)
@@ -51,7 +51,7 @@ slots_rise : (D : List ℕ → Dig) (l m : List TreeLeaf) (i j : ℕ) {X Y : Tre
 slots_rise D l m i j less most a b same =
     let f = slot_fork l i j in
     ap₂ (λ (x y : Tree). rise D f.above (H D (rise D f.left (hash_of D x)) (rise D f.right (hash_of D y)))) (sym a) (sym b)
-    ∙ fork-rises D (slots_of l) (slots_of m) (slot_count + i) (slot_count + j) (slot_level i (omega arith)) (slot_level j most)
+    ∙ fork_rises D (slots_of l) (slots_of m) (slot_count + i) (slot_count + j) (slot_level i (omega arith)) (slot_level j most)
     (omega arith) same
 
 module _ {D : List ℕ → Dig} {w : World} (r : Ready D w) where

@@ -1,6 +1,6 @@
 -- What the tablet awaits at each step: every byte of the reply that it can know, which is all but a memorandum; and what a reply line
 -- that is not that may be.
-use Rattle.std.specs.Prelude.{Bool, true, false, List, [], ◌∷◌, ◌++◌, ℕ, ◌+◌, ◌-◌, ◌%◌, eqb, leb, length, get_or, take, drop}
+use Rattle.std.specs.Prelude.{Bool, true, false, List, [], ◌∷◌, ◌++◌, ℕ, ◌+◌, ◌%◌, eqb, leb, length, get_or, take}
 use Rattle.seqs.specs.Choose.{pick, both}
 use Rattle.seqs.specs.Bytes.{be64, same}
 use Rattle.hexadecimal.specs.Hex.{all_digits, bytes_of}

@@ -1,5 +1,5 @@
 -- What the private functions of this crate promise one another: known bytes at the front of an array, and more behind them.
-use Rattle.std.specs.Prelude.{◌≡◌, Bool, List, ◌++◌, ℕ, ◌+◌, length, take}
+use Rattle.std.specs.Prelude.{◌≡◌, List, ◌++◌, ℕ, ◌+◌, length, take}
 use Rattle.hearing.specs.declared.Known.{Known}
 use Rattle.hearing.specs.Awaiting.{Awaited}
 

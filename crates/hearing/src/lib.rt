@@ -1,5 +1,7 @@
 // What a reply leads to. The tablet knows every byte of a reply but a memorandum; only where all of them are there does the wish go on,
 // and only where they answer a line that commits does memory change.
+#![tactic(auto)]
+
 ghost use Rattle.std.specs.Prelude.{◌≡◌, [], ◌∷◌, ◌++◌, ◌+◌, ◌-◌, ◌≤◌, length, take};
 ghost use Rattle.seqs.specs.Choose.{pick};
 ghost use Rattle.seqs.specs.Bytes.{be64, same};
@@ -18,7 +20,7 @@ use plans::{Plan, Script};
 
 // How the wish stands after a reply: whether it goes on (0), is done (1), was refused by the module (2) or got something else (3); the
 // refusal's number; whether memory changed; how many leaves it holds, and the counter; and what is kept for the next line.
-#[derive(Drop)]
+#[derive(Clone, Copy)]
 pub struct Heard {
     pub end: u8,
     pub number: u8,
@@ -29,7 +31,7 @@ pub struct Heard {
 }
 
 // The bytes of a reply that are known, at the front of an array; how many; and whether a memorandum follows.
-#[derive(Drop)]
+#[derive(Clone, Copy)]
 struct Known {
     bytes: [u8; 65],
     n: usize,

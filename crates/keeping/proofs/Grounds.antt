@@ -10,7 +10,7 @@ use lib.Dec.{eqb}
 use Rattle.seqs.specs.Choose.{Every, both_true, opposite}
 use Rattle.paper.specs.declared.Record.{Record}
 use Rattle.paper.specs.Strings.{Dig, record_hash, malformed}
-use Rattle.rings.specs.Trees.{TreeLeaf, leaves, hash_of, count}
+use Rattle.rings.specs.Trees.{TreeLeaf, hash_of, count}
 use Rattle.rings.specs.Lists.{ListItem, AscendingFrom, OnList, ring}
 use Rattle.runs.specs.Run.{World}
 use Rattle.runs.specs.Sizes.{ItemFits, ItemsFit}

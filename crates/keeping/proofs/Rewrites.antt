@@ -40,7 +40,6 @@ use Rattle.groves.proofs.ShortLines.{way_length}
 use Rattle.rows.specs.declared.Row.{Row}
 use Rattle.rows.specs.Rows.{row_at, rows_from, row_put}
 use Rattle.ringed.specs.Ringed.{leaf_by, leaves_by}
-use Rattle.edits.specs.declared.Edit.{Edit}
 use Rattle.edits.specs.declared.Change.{Change}
 use Rattle.edits.specs.Changes.{one_place}
 use Rattle.wishes.specs.Words.{own_place}

@@ -1,5 +1,7 @@
 // The keeper's memory: a tablet's leaves, six numbers each in the order of their slots, beside the nodes of the tree over them. A
 // leaf put into both, and a store loaded.
+#![tactic(auto)]
+
 ghost use Rattle.std.specs.Prelude.{◌≡◌, true, ◌<◌, length};
 ghost use Rattle.seqs.specs.Choose.{pick};
 ghost use Rattle.sha256.specs.Hash.{sha256};
@@ -30,7 +32,7 @@ pub const LEAVES: usize = 6144;
 pub const NODES: usize = 65536;
 
 // What loading comes to: so many leaves held; or a line that cannot be read, too many lines, two that break the ring, or no room.
-#[derive(Drop)]
+#[derive(Clone, Copy)]
 pub enum Loaded {
     Held(usize),
     Stopped(usize),

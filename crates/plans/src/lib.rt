@@ -1,6 +1,8 @@
 // What the tablet works out for a wish before its first line goes out: which lines the wish takes, what changes in the tree, and what
 // memory is to hold once the module has accepted. Memory is only looked at here, and of it
 // no more than 1,024 leaves.
+#![tactic(auto)]
+
 ghost use Rattle.std.specs.Prelude.{◌≡◌, ◌-◌, ◌≤◌};
 ghost use Rattle.sha256.specs.Hash.{sha256};
 ghost use Rattle.paper.specs.Strings.{empty_record};
@@ -17,7 +19,7 @@ use wishes::Wish;
 
 // Which lines a wish takes: a question where nothing is listed, any other question; a record set, or cleared; the first item listed,
 // another one; two leaves exchanged, the last leaf taken out; the only item taken out.
-#[derive(Drop)]
+#[derive(Clone, Copy)]
 pub enum Script {
     AskOfNone,
     Asking,
@@ -31,7 +33,7 @@ pub enum Script {
 }
 
 // What memory is to hold once the module has accepted: the leaves in the slots that change, how many leaves there are, and the counter.
-#[derive(Drop)]
+#[derive(Clone, Copy)]
 pub struct After {
     pub left: Row,
     pub right: Row,
@@ -41,7 +43,7 @@ pub struct After {
 
 // What a wish comes to: its lines; its item, and the values of a set; the leaf that stands in the left slot, the item that it will
 // lead to or that follows the one taken out, and the hash of its record; what changes in the tree; and what memory is to hold.
-#[derive(Drop)]
+#[derive(Clone, Copy)]
 pub struct Plan {
     pub script: Script,
     pub item: Item,
@@ -54,7 +56,7 @@ pub struct Plan {
 }
 
 // The word by which the tablet refuses, by its number (0: it does not), and the plan where it does not.
-#[derive(Drop)]
+#[derive(Clone, Copy)]
 pub struct Begun {
     pub word: u8,
     pub plan: Plan,

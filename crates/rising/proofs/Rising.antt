@@ -2,20 +2,19 @@
 -- the way.
 use mathlib.Core.Path.{◌≡◌, refl, sym, ap, ap₂, subst, ◌∙◌}
 use mathlib.Core.List.{List}
-use mathlib.Core.Logic.{◌≢◌}
 use Prim.Native.Nat.{ℕ, zero, suc, ◌+◌, ◌-◌, ◌*◌, ◌/◌, ◌%◌, ◌^◌, ◌<◌, ◌≤◌}
 use native.Mathlib.Omega.{arith}
 use Rattle.paper.specs.Strings.{Dig, H}
-use Rattle.paper.specs.Requests.{Request, path}
+use Rattle.paper.specs.Requests.{path}
 use Rattle.paper.specs.declared.Registers.{Registers}
 use Rattle.rings.specs.Trees.{Tree, hash_of}
 use Rattle.runs.specs.Ways as W
 use Rattle.runs.specs.Ways.{Way, rise, risen, parents, risen_two, sides_of, siblings_of}
 use Rattle.runs.specs.Honest.{path_up}
 use Rattle.slots.specs.Nodes.{ancestor, meeting, node_at, climbed, summed, siblings_up}
-use Rattle.groves.specs.Grove.{tree_at, way_up, fork_at, Kept}
+use Rattle.groves.specs.Grove.{way_up, fork_at, Kept}
 use Rattle.groves.proofs.Groves.{OnLevel, level_up, slot_level, kept_node, siblings_are, climbs, sides_are, rises}
-use Rattle.groves.proofs.Forks.{Halves, halves_of}
+use Rattle.groves.proofs.Forks.{halves_of}
 use Rattle.edits.specs.declared.Edit.{Edit}
 use Rattle.edits.specs.declared.Change.{Change}
 use Rattle.edits.specs.Changes.{risen_at, forked_at, one_place, two_places}

@@ -4,26 +4,26 @@ use mathlib.Core.List.{List, [], ◌∷◌, ◌++◌}
 use mathlib.Core.Logic.{◌≢◌}
 use Prim.Native.Nat.{ℕ, ◌+◌, ◌<◌, ◌≤◌}
 use native.Mathlib.Omega.{arith}
-use borrow.Author.Tests.{eq-eqb, ne_eqb}
+use borrow.Author.Tests.{ne_eqb}
 use Rattle.paper.specs.declared.Registers.{Registers}
 use Rattle.paper.specs.declared.Item.{Item}
 use Rattle.paper.specs.declared.Revision.{Revision}
 use Rattle.paper.specs.Strings.{Dig, nought, v1, record_hash, digest_of}
 use Rattle.paper.specs.Requests.{Request, witness, ask, ask_none}
 use Rattle.paper.specs.Refusals.{leaf_of}
-use Rattle.rings.specs.Trees.{Tree, hash_of}
+use Rattle.rings.specs.Trees.{Tree}
 use Rattle.runs.specs.Run.{Items}
 use Rattle.runs.specs.Ways as W
 use Rattle.runs.specs.Ways.{item_of, next_of, tells_of, rise, risen}
 use Rattle.runs.specs.Honest.{record_of, say_u1, note, path_up, one_place, leaf_lines}
-use Rattle.slots.specs.Nodes.{ancestor, node_at}
+use Rattle.slots.specs.Nodes.{node_at}
 use Rattle.groves.specs.Grove.{slots_of, tree_of, way_up, Kept}
 use Rattle.groves.proofs.Groves.{slot_level}
 use Rattle.groves.proofs.Forks.{top_is}
 use Rattle.groves.proofs.ShortLines.{way_length, one_path}
 use Rattle.rows.specs.declared.Row.{Row}
 use Rattle.rows.specs.Rows.{row_at, rows_from, seek, telling}
-use Rattle.ringed.specs.Ringed.{leaf_by, leaves_by}
+use Rattle.ringed.specs.Ringed.{leaves_by}
 use Rattle.edits.specs.declared.Change.{Change}
 use Rattle.edits.specs.Changes.{still_place, risen_at}
 use Rattle.edits.proofs.Places.{still_is}
@@ -31,7 +31,7 @@ use Rattle.plans.specs.declared.Plan.{Plan}
 use Rattle.plans.specs.declared.Script.TheVariants.{Asking}
 use Rattle.plans.specs.Plans.{row_digest, no_values, no_row, plain_plan, asked}
 use Rattle.asking.specs.declared.Talk.{Talk}
-use Rattle.asking.specs.Saying.{start_of, slot_node, path_from, request_as, request_at}
+use Rattle.asking.specs.Saying.{start_of, slot_node, path_from, request_at}
 use Rattle.rising.specs.Rising.{as_edit}
 use Rattle.rising.proofs.Rising.{rises_in, path_in}
 use Rattle.saying.specs.Spoken.{spoken}

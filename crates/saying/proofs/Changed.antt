@@ -2,36 +2,30 @@
 use mathlib.Core.Path.{◌≡◌, refl, sym, ap, ap₂, subst, ◌∙◌}
 use mathlib.Core.Bool.{Bool, true, false}
 use mathlib.Core.List.{List, [], ◌∷◌, ◌++◌, append_assoc}
-use Prim.Native.Nat.{ℕ, zero, suc, ◌+◌, ◌-◌, ◌<◌, ◌≤◌}
+use Prim.Native.Nat.{ℕ, suc, ◌+◌, ◌<◌}
 use native.Mathlib.Omega.{arith}
-use lib.ListN.{length}
 use Rattle.seqs.specs.Choose.{pick}
 use Rattle.paper.specs.declared.Registers.{Registers}
-use Rattle.paper.specs.declared.Item.{Item}
-use Rattle.paper.specs.declared.Revision.{Revision}
-use Rattle.paper.specs.Strings.{Dig, nought, record_hash, leaf, digest_of}
+use Rattle.paper.specs.Strings.{Dig, nought}
 use Rattle.paper.specs.Requests.{Request, place, turn, adopt, swap}
-use Rattle.rings.specs.Trees.{TreeLeaf, points, Tree, empty, tip, hash_of}
+use Rattle.rings.specs.Trees.{Tree}
 use Rattle.runs.specs.Ways as W
 use Rattle.runs.specs.Ways.{Fork, risen, parents, risen_two}
 use Rattle.runs.specs.Honest.{say_u1, say_u2, say_ei, turned_round, note, turn_round, take_over, relinked, gone, without, placed, two_places}
-use Rattle.slots.specs.Nodes.{meeting, node_at}
-use Rattle.groves.specs.Grove.{slots_of, fork_at, Kept}
-use Rattle.groves.specs.SlotLines.{leaf_at, slot_fork, insert_at, swap_at, drop_at}
-use Rattle.edits.specs.declared.Edit.{Edit}
+use Rattle.slots.specs.Nodes.{meeting}
+use Rattle.groves.specs.Grove.{fork_at, Kept}
 use Rattle.edits.specs.declared.Change.{Change}
 use Rattle.edits.specs.Changes as E
 use Rattle.edits.proofs.Places.{two_is}
 use Rattle.plans.specs.declared.Plan.{Plan}
 use Rattle.plans.specs.declared.Script.{Script}
-use Rattle.plans.specs.declared.Script.TheVariants.{AskOfNone, Asking, Setting, Clearing, Beginning, Inserting, Swapping, Dropping, Emptying}
 use Rattle.asking.specs.declared.Talk.{Talk}
 use Rattle.asking.specs.declared.Part.TheVariants.{SwapThem, PlaceIt, TurnIt, AdoptIt}
 use Rattle.asking.specs.Parts.{part_at}
-use Rattle.asking.specs.Saying.{start_of, turns_round, turned_edit, sent, sent_change, request_as, request_at}
+use Rattle.asking.specs.Saying.{start_of, turns_round, turned_edit, sent_change, request_as, request_at}
 use Rattle.rising.specs.Rising.{as_edit}
 use Rattle.rising.proofs.Rising.{TwoRisen, two_risen}
-use Rattle.saying.specs.Spoken.{next_talk, issued_for, spoken}
+use Rattle.saying.specs.Spoken.{spoken}
 use Rattle.saying.proofs.Forked.{Forks, SentUp, one_line, spoken_five, root_is}
 
 -- ── what rises, turned round or not ──

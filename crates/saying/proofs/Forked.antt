@@ -1,31 +1,28 @@
 -- Where two leaves change, the first five lines are those of `runs` for the two places, up the fork of their slots.
 use mathlib.Core.Path.{◌≡◌, refl, sym, ap, ap₂, subst, ◌∙◌}
-use mathlib.Core.Bool.{Bool, true, false}
-use mathlib.Core.List.{List, [], ◌∷◌, ◌++◌}
-use Prim.Native.Nat.{ℕ, zero, suc, ◌+◌, ◌-◌, ◌*◌, ◌/◌, ◌%◌, ◌^◌, ◌<◌, ◌≤◌}
+use mathlib.Core.List.{List, ◌∷◌, ◌++◌}
+use Prim.Native.Nat.{ℕ, suc, ◌+◌, ◌-◌, ◌%◌, ◌<◌, ◌≤◌}
 use native.Mathlib.Omega.{arith}
 use borrow.Author.Tests.{le-leb}
 use Rattle.paper.specs.declared.Registers.{Registers}
-use Rattle.paper.specs.Strings.{Dig, u1, u2, fold_up, memorandum}
+use Rattle.paper.specs.Strings.{Dig, u1, memorandum}
 use Rattle.paper.specs.Requests.{Request, pair, raise}
 use Rattle.rings.specs.Trees.{Tree}
 use Rattle.runs.specs.Ways as W
 use Rattle.runs.specs.Ways.{Way, Fork, rise, risen, parents, sides_of, siblings_of}
-use Rattle.runs.specs.Honest.{say_u1, say_u2, turned_round, note, path_up, pair_up, raise_up, two_places}
+use Rattle.runs.specs.Honest.{say_u1, say_u2, note, path_up, pair_up, raise_up, two_places}
 use Rattle.runs.proofs.Climbs.{fold_rises}
 use Rattle.slots.specs.Nodes.{ancestor, meeting}
 use Rattle.slots.proofs.Turns.{meeting_most}
-use Rattle.groves.specs.Grove.{way_up, fork_at, Kept}
+use Rattle.groves.specs.Grove.{fork_at, Kept}
 use Rattle.groves.proofs.Groves.{OnLevel, slot_level}
 use Rattle.groves.proofs.ShortLines.{five_lines, fork_short}
-use Rattle.edits.specs.declared.Edit.{Edit}
 use Rattle.edits.specs.declared.Change.{Change}
 use Rattle.plans.specs.declared.Plan.{Plan}
 use Rattle.asking.specs.declared.Talk.{Talk}
-use Rattle.asking.specs.declared.Part.{Part}
 use Rattle.asking.specs.declared.Part.TheVariants.{PathLeft, PathRight, PairUp, PathAbove, RaiseUp}
 use Rattle.asking.specs.Parts.{part_at}
-use Rattle.asking.specs.Saying.{start_of, sent, sent_change, slot_node, few, path_from, request_as, request_at}
+use Rattle.asking.specs.Saying.{start_of, sent_change, slot_node, few, path_from, request_as, request_at}
 use Rattle.rising.specs.Rising.{as_edit}
 use Rattle.rising.proofs.Rising.{level_above, path_in}
 use Rattle.saying.specs.Spoken.{next_talk, issued_for, spoken}

@@ -1,34 +1,31 @@
 -- The lines of the plans of insert, exchange and removal, from memory that keeps the tree of its leaves.
-use mathlib.Core.Path.{◌≡◌, refl, sym, ap, ap₂, subst, ◌∙◌}
+use mathlib.Core.Path.{◌≡◌, refl, sym, ap, ap₂, ◌∙◌}
 use mathlib.Core.List.{List, [], ◌∷◌, ◌++◌}
 use Prim.Native.Nat.{ℕ, zero, suc, ◌+◌, ◌-◌, ◌<◌, ◌≤◌}
 use native.Mathlib.Nat.{not-suc-le-zero}
 use native.Mathlib.Omega.{arith}
-use lib.ListN.{length, get_or}
+use lib.ListN.{length}
 use Rattle.paper.specs.declared.Registers.{Registers}
 use Rattle.paper.specs.declared.Record.{Record}
 use Rattle.paper.specs.declared.Item.{Item}
 use Rattle.paper.specs.declared.Revision.{Revision}
 use Rattle.paper.specs.Strings.{Dig, nought, empty_record, record_hash, leaf, digest_of}
 use Rattle.paper.specs.Requests.{Request}
-use Rattle.rings.specs.Trees.{TreeLeaf, points, Tree, empty, tip, hash_of}
+use Rattle.rings.specs.Trees.{TreeLeaf, tip, hash_of}
 use Rattle.runs.specs.Ways as W
 use Rattle.runs.specs.Ways.{item_of, next_of, hash_in, Fork}
-use Rattle.runs.specs.Honest.{turned_round, turn_round, take_over, relinked, gone, without, placed}
+use Rattle.runs.specs.Honest.{turned_round, turn_round, take_over, without, placed}
 use Rattle.slots.specs.Nodes.{node_at}
 use Rattle.groves.specs.Grove.{slots_of, fork_at, Kept}
 use Rattle.groves.specs.SlotLines.{leaf_at, slot_fork, insert_at, swap_at, drop_at}
 use Rattle.groves.proofs.SlotLines.{slot_here, slot_past}
-use Rattle.rows.specs.declared.Row.{Row}
 use Rattle.rows.specs.Rows.{row_at, rows_from, seek, gap_of, leading_to}
 use Rattle.wishes.specs.Words.{own_place}
 use Rattle.ringed.specs.Ringed.{leaf_by, leaves_by}
-use Rattle.plans.specs.declared.Plan.{Plan}
 use Rattle.plans.specs.declared.Script.TheVariants.{Inserting, Swapping, Dropping}
 use Rattle.plans.specs.Plans.{row_digest, place_plan, plain_plan, inserting, swapping, dropping}
 use Rattle.asking.specs.Saying.{start_of}
-use Rattle.rising.specs.Rising.{as_edit}
-use Rattle.rising.proofs.Rising.{TwoRisen, two_risen}
+use Rattle.rising.proofs.Rising.{two_risen}
 use Rattle.saying.specs.Spoken.{spoken}
 use Rattle.saying.proofs.Forked.{Forks}
 use Rattle.saying.proofs.Changed.{sent_up, Places, sent_root, insert_spoken, drop_spoken, swap_spoken}

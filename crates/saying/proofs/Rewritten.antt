@@ -1,8 +1,7 @@
 -- Set, clear and ask: the lines that the tablet makes of its memory are the honest lines of `runs`, of the tree that memory keeps.
-use mathlib.Core.Path.{◌≡◌, refl, sym, ap, ap₂, ◌∙◌}
-use mathlib.Core.Bool.{true}
+use mathlib.Core.Path.{◌≡◌, refl, sym, ap, ◌∙◌}
 use mathlib.Core.List.{List, [], ◌∷◌, ◌++◌}
-use Prim.Native.Nat.{ℕ, ◌+◌, ◌%◌, ◌^◌, ◌<◌, ◌≤◌}
+use Prim.Native.Nat.{ℕ, ◌+◌, ◌<◌, ◌≤◌}
 use native.Mathlib.Omega.{arith}
 use borrow.Author.Tests.{eqb-true}
 use Rattle.seqs.specs.First.{first_passes}
@@ -11,10 +10,10 @@ use Rattle.paper.specs.declared.Item.{Item}
 use Rattle.paper.specs.declared.Record.{Record}
 use Rattle.paper.specs.declared.Revision.{Revision}
 use Rattle.paper.specs.declared.Values.{Values}
-use Rattle.paper.specs.Strings.{Dig, nought, record_hash, leaf, digest_of}
+use Rattle.paper.specs.Strings.{Dig, nought, record_hash, digest_of}
 use Rattle.paper.specs.Requests.{Request, set_to, clear}
 use Rattle.paper.specs.Refusals.{next_record, cleared_record, leaf_of}
-use Rattle.rings.specs.Trees.{Tree, hash_of}
+use Rattle.rings.specs.Trees.{Tree}
 use Rattle.runs.specs.Run.{Items}
 use Rattle.runs.specs.Ways as W
 use Rattle.runs.specs.Ways.{is_of, Way, next_of, found, way_to, risen}
@@ -25,7 +24,7 @@ use Rattle.groves.proofs.ShortLines.{way_length, one_path}
 use Rattle.rows.specs.declared.Row.{Row}
 use Rattle.rows.specs.Rows.{row_at, rows_from, of_item}
 use Rattle.wishes.specs.Words.{own_place}
-use Rattle.ringed.specs.Ringed.{leaf_by, leaves_by}
+use Rattle.ringed.specs.Ringed.{leaves_by}
 use Rattle.edits.specs.declared.Change.{Change}
 use Rattle.edits.specs.Changes.{one_place as changeOne}
 use Rattle.edits.proofs.Places.{one_is}

@@ -1,1 +1,2 @@
 // What the tablet says are honest lines of runs. No code: see specs/ and proofs/.
+#![tactic(auto)]

@@ -1,5 +1,7 @@
 // The tablet's store as text: a line for each slot in order, A, A' and the record in 96 digits, and 0A. A line read and written, a
 // whole text judged, and written.
+#![tactic(auto)]
+
 ghost use Rattle.std.specs.Prelude.{◌≡◌, true, ◌*◌, ◌<◌, leb, length, drop};
 ghost use Rattle.seqs.specs.Bytes.{number_at};
 ghost use Rattle.seqs.specs.Over.{written};
@@ -19,21 +21,21 @@ pub const DIGITS: usize = 96;
 pub const LINE: usize = 97;
 
 // What a line says: a leaf, or nothing that can be read.
-#[derive(Drop)]
+#[derive(Clone, Copy)]
 pub enum Line {
     Leaf(Row),
     Unreadable,
 }
 
 // What a text has: so many lines, all readable, or so many before the first that is not.
-#[derive(Drop)]
+#[derive(Clone, Copy)]
 pub enum Lines {
     Readable(usize),
     Stopped(usize),
 }
 
 // What a text comes to: a ring of so many lines, a line that cannot be read, too many lines, or two that break the ring.
-#[derive(Drop)]
+#[derive(Clone, Copy)]
 pub enum Judged {
     Ring(usize),
     Stopped(usize),

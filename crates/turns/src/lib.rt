@@ -1,5 +1,7 @@
 // The keeper's turns: a line comes, a wish in words or the module's reply, and one line goes out, for the module or for people. All that
 // the keeper does is here but for input, output and the disk.
+#![tactic(auto)]
+
 ghost use Rattle.std.specs.Prelude.{◌≡◌};
 ghost use Rattle.sha256.specs.Hash.{sha256};
 ghost use Rattle.paper.specs.Answers.{finding_of};
@@ -16,7 +18,7 @@ use words::{Telling, Word};
 
 // What is kept between two lines: how many leaves memory holds, the counter that the module gave last, whether a reply is awaited, and
 // the talk that it is awaited in.
-#[derive(Drop)]
+#[derive(Clone, Copy)]
 pub struct Desk {
     pub count: usize,
     pub counter: Revision,
@@ -25,7 +27,7 @@ pub struct Desk {
 }
 
 // What a line led to: the desk, whether memory changed, and how many bytes of the output are the line that goes out.
-#[derive(Drop)]
+#[derive(Clone, Copy)]
 pub struct Turn {
     pub desk: Desk,
     pub changed: bool,

@@ -1,5 +1,7 @@
 // A wish, and whether the tablet refuses it by itself: by the first word that applies. Memory is only looked at, and of it no more than
 // 1,024 leaves.
+#![tactic(auto)]
+
 ghost use Rattle.std.specs.Prelude.{◌≡◌, List, ℕ, ◌≤◌};
 ghost use Rattle.slots.specs.Nodes.{slot_count};
 ghost use Rattle.wishes.specs.declared.Wish.TheVariants.{Insert, Remove, Set, Clear, Ask};
@@ -10,7 +12,7 @@ use rows::Search;
 use slots::SLOTS;
 
 // A wish: an item listed, taken out, given a record, cleared of it, or asked about.
-#[derive(Drop)]
+#[derive(Clone, Copy)]
 pub enum Wish {
     Insert(Item),
     Remove(Item),

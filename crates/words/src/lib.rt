@@ -1,4 +1,6 @@
 // Words: a wish as people write it, read; and what came of it, told in a line that begins with `# `.
+#![tactic(auto)]
+
 ghost use Rattle.std.specs.Prelude.{◌≡◌, ◌+◌, ◌≤◌, ◌++◌, length, replicate};
 ghost use Rattle.seqs.specs.Over.{written};
 ghost use Rattle.paper.specs.declared.Finding.TheVariants.{Recorded, Listed, Gap};
@@ -14,7 +16,7 @@ use paper::{Finding, Item, Kilograms, Millimetres, Record, Revision, Rigging, Va
 use wishes::Wish;
 
 // What a line says where no reply is awaited: a wish; the counter that the module gave last; or nothing that is one of these.
-#[derive(Drop)]
+#[derive(Clone, Copy)]
 pub enum Word {
     Wish(Wish),
     Counter(Revision),
@@ -23,7 +25,7 @@ pub enum Word {
 
 // What is told: a change is done; a question's finding, or that there is no item at all; the tablet refuses, by the number of its
 // word; the module refused, by the number of its table; the module spoke otherwise; or a line is no wish.
-#[derive(Drop)]
+#[derive(Clone, Copy)]
 pub enum Telling {
     Done,
     Found(Finding),
@@ -35,7 +37,7 @@ pub enum Telling {
 }
 
 // A text at the front of an array of zeros; the longest that is told has 114 bytes.
-#[derive(Drop)]
+#[derive(Clone, Copy)]
 pub struct Text {
     pub bytes: [u8; 128],
     pub n: usize,
