@@ -6,6 +6,10 @@ ghost use Rattle.seqs.specs.Over.{written};
 ghost use Rattle.store.specs.Texts.{text_of};
 ghost use Rattle.rows.specs.Rows.{rows_from};
 
+use std::fs::File;
+use std::io::Write;
+use std::{fs, io};
+
 // The bytes of 1,024 lines.
 pub const TEXT: usize = 99328;
 
@@ -23,52 +27,66 @@ fn folder_length(path: &[u8]) -> usize
     0
 }
 
-fn sync_open(fd: i32) -> bool {
-    if fd < 0 {
-        return false;
+fn sync_open(opened: io::Result<File>) -> bool {
+    match opened {
+        Ok(file) => file.sync_all().is_ok(),
+        Err(_) => false,
     }
-    let synced = libc::fsync(fd);
-    let closed = libc::close(fd);
-    if synced != 0 {
-        return false;
-    }
-    closed == 0
 }
 
-fn sync_folder(path: &[u8]) -> bool {
-    let n = folder_length(path);
-    if n == 0 {
-        return sync_open(os::open_read(b"."));
+fn sync_folder(rt: &HostRuntime, path: &str) -> bool {
+    let n = folder_length(path.as_bytes());
+    match path.get(..n) {
+        Some(folder) if !folder.is_empty() => sync_open(File::open(rt, folder)),
+        _ => sync_open(File::open(rt, ".")),
     }
-    sync_open(os::open_read(&path[0..n]))
 }
 
 // The one place that writes the store. The caller has to show that the bytes are those of the leaves.
-fn write_store(leaves: &[u64], count: usize, bytes: &[u8], path: &[u8], other: &[u8]) -> bool
+fn write_store(
+    rt: &HostRuntime,
+    leaves: &[u64],
+    count: usize,
+    bytes: &[u8],
+    path: &str,
+    other: &str,
+) -> bool
     requires { bytes.now ≡ text_of (rows_from leaves.now count 0) }
 {
-    let fd = os::open_overwrite(other);
-    if fd < 0 {
+    let Ok(mut file) = File::create(rt, other) else {
+        return false;
+    };
+    if file.write_all(bytes).is_err() {
         return false;
     }
-    if !io::write_all(fd, bytes) {
-        libc::close(fd);
+    if !sync_open(Ok(file)) {
         return false;
     }
-    if !sync_open(fd) {
+    if fs::rename(rt, other, path).is_err() {
         return false;
     }
-    if os::rename(other, path) != 0 {
-        return false;
-    }
-    sync_folder(path)
+    sync_folder(rt, path)
 }
 
-fn keep_changed(leaves: &[u64], count: usize, text: &mut [u8], path: &[u8], other: &[u8]) -> bool
+fn keep_changed(
+    rt: &HostRuntime,
+    leaves: &[u64],
+    count: usize,
+    text: &mut [u8],
+    path: &str,
+    other: &str,
+) -> bool
     ensures { text.new ≡ written (text_of (rows_from leaves.now count 0)) text.old }
 {
     if store::save(leaves, count, text) {
-        return write_store(leaves, count, &text[0..store::LINE * count], path, other);
+        return write_store(
+            rt,
+            leaves,
+            count,
+            &text[0..store::LINE * count],
+            path,
+            other,
+        );
     }
     false
 }
@@ -76,18 +94,19 @@ fn keep_changed(leaves: &[u64], count: usize, text: &mut [u8], path: &[u8], othe
 // The leaves of memory on disk, in place of what the store held, where they changed: whether the store is as memory is. Of the disk the
 // contract can say nothing; `text` is where the store's bytes are made.
 pub fn keep(
+    rt: &HostRuntime,
     changed: bool,
     leaves: &[u64],
     count: usize,
     text: &mut [u8],
-    path: &[u8],
-    other: &[u8],
+    path: &str,
+    other: &str,
 ) -> bool
     ensures { text.new ≡ pick changed (written (text_of (rows_from leaves.now count 0)) text.old)
         text.old }
 {
     if changed {
-        return keep_changed(leaves, count, text, path, other);
+        return keep_changed(rt, leaves, count, text, path, other);
     }
     true
 }

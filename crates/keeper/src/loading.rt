@@ -4,17 +4,19 @@ ghost use Rattle.keeper.specs.declared.loading.Opened.TheVariants.{Shut};
 ghost use Rattle.keeper.specs.Opening.{OpenedAs};
 
 use memory::Loaded;
+use std::fs::File;
+use std::io::{ErrorKind, Print, Read};
 use store::Lines;
 
 // So many leaves are held, or the store could not be loaded, which was told.
-#[derive(Drop)]
+#[derive(Clone, Copy)]
 pub enum Opened {
     Holding(usize),
     Shut,
 }
 
 // So many bytes of a file were read, up to its end or the buffer's; or a read failed.
-#[derive(Drop)]
+#[derive(Clone, Copy)]
 struct Filled {
     n: usize,
     failed: bool,
@@ -22,17 +24,17 @@ struct Filled {
 
 // ── what is told ──
 
-fn tell_unreadable() -> Opened
+fn tell_unreadable(rt: &HostRuntime) -> Opened
     ensures { result ≡ Shut }
 {
-    io::write_all(1, b"# store cannot be read\n");
+    let _ = rt.write_all(b"# store cannot be read\n");
     Opened::Shut
 }
 
-fn tell_many() -> Opened
+fn tell_many(rt: &HostRuntime) -> Opened
     ensures { result ≡ Shut }
 {
-    io::write_all(1, b"# store has more than 1024 lines\n");
+    let _ = rt.write_all(b"# store has more than 1024 lines\n");
     Opened::Shut
 }
 
@@ -45,38 +47,33 @@ fn plus(a: usize, b: usize) -> usize {
     }
 }
 
-fn tell_line(i: usize) -> Opened
+fn tell_line(rt: &HostRuntime, i: usize) -> Opened
     ensures { result ≡ Shut }
 {
-    io::write_all(1, b"# store line ");
-    io::print_decimal(1, plus(i, 1) as u64);
-    io::write_all(1, b" cannot be read\n");
+    let line = plus(i, 1);
+    let _ = println!(rt; "# store line {line} cannot be read");
     Opened::Shut
 }
 
-fn tell_pair(i: usize, j: usize) -> Opened
+fn tell_pair(rt: &HostRuntime, i: usize, j: usize) -> Opened
     ensures { result ≡ Shut }
 {
-    io::write_all(1, b"# store lines ");
-    io::print_decimal(1, plus(i, 1) as u64);
-    io::write_all(1, b" and ");
-    io::print_decimal(1, plus(j, 1) as u64);
-    io::write_all(1, b" break the ring\n");
+    let first = plus(i, 1);
+    let second = plus(j, 1);
+    let _ = println!(rt; "# store lines {first} and {second} break the ring");
     Opened::Shut
 }
 
 // ── reading ──
 
-fn fill(fd: i32, buffer: &mut [u8]) -> Filled
+fn fill(file: &mut File, buffer: &mut [u8]) -> Filled
     ensures { result.n ≤ length buffer.new }
 {
     let mut n: usize = 0;
     while n < buffer.len() {
-        let got = libc::read(fd, &mut buffer[n..]);
-        if got < 0 {
+        let Ok(more) = file.read(&mut buffer[n..]) else {
             return Filled { n, failed: true };
-        }
-        let more = io::count(got, &buffer[n..]);
+        };
         if more == 0 {
             return Filled { n, failed: false };
         }
@@ -87,13 +84,19 @@ fn fill(fd: i32, buffer: &mut [u8]) -> Filled
 
 // A store of more lines than there are slots: the first that cannot be read is named, if there is one. Lines that can be read have 97
 // bytes, so that a buffer full of them ends where a line does.
-fn judge_long(fd: i32, text: &[u8], more: &mut [u8], read: usize) -> Opened
+fn judge_long(
+    rt: &HostRuntime,
+    file: &mut File,
+    text: &[u8],
+    more: &mut [u8],
+    read: usize,
+) -> Opened
     requires { read ≤ length more.old }
     ensures { result ≡ Shut }
 {
     let mut before: usize = 0;
     match store::count_lines(text) {
-        Lines::Stopped(i) => return tell_line(i),
+        Lines::Stopped(i) => return tell_line(rt, i),
         Lines::Readable(n) => {
             before = n;
         }
@@ -102,38 +105,39 @@ fn judge_long(fd: i32, text: &[u8], more: &mut [u8], read: usize) -> Opened
     let mut turns = u64::MAX;
     while turns > 0 {
         match store::count_lines(&more[0..m]) {
-            Lines::Stopped(i) => return tell_line(plus(before, i)),
+            Lines::Stopped(i) => return tell_line(rt, plus(before, i)),
             Lines::Readable(n) => {
                 before = plus(before, n);
             }
         }
-        let next = fill(fd, more);
+        let next = fill(file, more);
         if next.failed {
-            return tell_unreadable();
+            return tell_unreadable(rt);
         }
         if next.n == 0 {
-            return tell_many();
+            return tell_many(rt);
         }
         m = next.n;
         turns -= 1;
     }
-    tell_many()
+    tell_many(rt)
 }
 
-fn load(text: &[u8], leaves: &mut [u64], nodes: &mut [u8]) -> Opened
+fn load(rt: &HostRuntime, text: &[u8], leaves: &mut [u64], nodes: &mut [u8]) -> Opened
     ensures { OpenedAs result leaves.old nodes.old leaves.new nodes.new }
 {
     match memory::load(text, leaves, nodes) {
         Loaded::Held(k) => Opened::Holding(k),
-        Loaded::Stopped(i) => tell_line(i),
-        Loaded::TooMany(n) => tell_many(),
-        Loaded::Broken(i, j) => tell_pair(i, j),
-        Loaded::NoRoom => tell_many(),
+        Loaded::Stopped(i) => tell_line(rt, i),
+        Loaded::TooMany(n) => tell_many(rt),
+        Loaded::Broken(i, j) => tell_pair(rt, i, j),
+        Loaded::NoRoom => tell_many(rt),
     }
 }
 
 fn open_read(
-    fd: i32,
+    rt: &HostRuntime,
+    file: &mut File,
     text: &mut [u8],
     more: &mut [u8],
     leaves: &mut [u64],
@@ -141,26 +145,27 @@ fn open_read(
 ) -> Opened
     ensures { OpenedAs result leaves.old nodes.old leaves.new nodes.new }
 {
-    let first = fill(fd, text);
+    let first = fill(file, text);
     if first.failed {
-        return tell_unreadable();
+        return tell_unreadable(rt);
     }
-    let second = fill(fd, more);
+    let second = fill(file, more);
     if second.failed {
-        return tell_unreadable();
+        return tell_unreadable(rt);
     }
     let n = first.n;
     let m = second.n;
     if m == 0 {
-        return load(&text[0..n], leaves, nodes);
+        return load(rt, &text[0..n], leaves, nodes);
     }
-    judge_long(fd, text, more, m)
+    judge_long(rt, file, text, more, m)
 }
 
 // A missing store is an empty one. What is held is what some text loads to, and where the store is shut memory is as it was; that the
 // text is the file's, and what then stands in the two buffers, is for the system to see to.
 pub fn open(
-    path: &[u8],
+    rt: &HostRuntime,
+    path: &str,
     text: &mut [u8],
     more: &mut [u8],
     leaves: &mut [u64],
@@ -168,14 +173,13 @@ pub fn open(
 ) -> Opened
     ensures { OpenedAs result leaves.old nodes.old leaves.new nodes.new }
 {
-    let fd = os::open_read(path);
-    if fd < 0 {
-        if os::errno() == libc::ENOENT {
-            return load(&text[0..0], leaves, nodes);
+    match File::open(rt, path) {
+        Ok(mut file) => open_read(rt, &mut file, text, more, leaves, nodes),
+        Err(e) => {
+            if e.kind() == ErrorKind::NotFound {
+                return load(rt, &text[0..0], leaves, nodes);
+            }
+            tell_unreadable(rt)
         }
-        return tell_unreadable();
     }
-    let opened = open_read(fd, text, more, leaves, nodes);
-    libc::close(fd);
-    opened
 }

@@ -1,14 +1,20 @@
 // The program: lines in on standard input, one reply line for each on standard output.
 // Replies go out together, and all of them before more input is waited for. `session` has the work and its law: what is
 // written, however the input arrives, is the replies to its lines (specs/Program.antt there follows the loops here).
+#![tactic(auto)]
+
 ghost use Rattle.std.specs.Prelude.{◌<◌, ◌≤◌, length};
 ghost use Rattle.paper.specs.Refusals.{longest_line, reply_room};
 ghost use Rattle.knotcinder.specs.Loop.{Due, Standing, Through};
 
 use paper::{LONGEST_LINE, Registers};
+use std::io::{Print, Read};
+
+// The most bytes that one read takes, and the room for replies that go out together.
+const PIECE: usize = 65536;
 
 // What a piece of input left: the registers, how many bytes are held of a line, and whether its replies could be written.
-#[derive(Drop)]
+#[derive(Clone, Copy)]
 struct Left {
     registers: Registers,
     held: usize,
@@ -17,16 +23,14 @@ struct Left {
 
 // Why the program stops before the end of its input is said in words on standard error, as `main` hands no status on:
 // `bin/knotcinder` makes one of them. Where they cannot be written either, nothing is left to be said.
-fn tell_unread() {
-    io::write_all(
-        2,
+fn tell_unread(rt: &HostRuntime) {
+    let _ = rt.stderr().write_all(
         b"knotcinder: standard input could not be read; the program stops here, and a line whose end was not read gets no reply\n",
     );
 }
 
-fn tell_unwritten() {
-    io::write_all(
-        2,
+fn tell_unwritten(rt: &HostRuntime) {
+    let _ = rt.stderr().write_all(
         b"knotcinder: a reply could not be written; the program stops here, and a line without a whole reply gets none\n",
     );
 }
@@ -34,12 +38,12 @@ fn tell_unwritten() {
 // The one place that writes replies. No contract can say what a call of the system does with these bytes; so the caller has to
 // show that they are exactly the replies due, and hands over what shows it: the registers before, the bytes held of a line, and
 // the part of the input behind them that the replies are for.
-fn say(r: Registers, held: &[u8], part: &[u8], replies: &[u8]) -> bool
+fn say(rt: &HostRuntime, r: Registers, held: &[u8], part: &[u8], replies: &[u8]) -> bool
     requires { Due r held.now part.now replies.now }
 {
-    let written = io::write_all(1, replies);
+    let written = rt.write_all(replies).is_ok();
     if !written {
-        tell_unwritten();
+        tell_unwritten(rt);
     }
     written
 }
@@ -48,6 +52,7 @@ fn say(r: Registers, held: &[u8], part: &[u8], replies: &[u8]) -> bool
 // call of `serve` is kept, as the call goes over the line's space.
 // The caller has to show that a session can stand here, and spaces as the law of a whole input asks for them; so in `end`.
 fn serve_piece(
+    rt: &HostRuntime,
     r: Registers,
     piece: &[u8],
     line: &mut [u8],
@@ -68,7 +73,7 @@ fn serve_piece(
         let o = session::serve(registers, piece, at, line, n, out);
         let next = o.next;
         let w = o.filled;
-        if !say(registers, &kept[0..n], &piece[at..next], &out[0..w]) {
+        if !say(rt, registers, &kept[0..n], &piece[at..next], &out[0..w]) {
             return Left {
                 registers,
                 held: n,
@@ -88,38 +93,36 @@ fn serve_piece(
 }
 
 // Answers a last line without 0A, if anything is held of one (§4.1.5).
-fn end(r: Registers, line: &[u8], held: usize, out: &mut [u8])
+fn end(rt: &HostRuntime, r: Registers, line: &[u8], held: usize, out: &mut [u8])
     requires held_in_bounds { (held ≤ length line.now) × (longest_line < length line.now) × (reply_room ≤ length out.old) }
     requires standing { Standing r line.now held }
 {
     let a = session::finish(r, line, held, out);
     let n = a.length;
     if 0 < held {
-        say(r, &line[0..held], b"\n", &out[0..n]);
+        say(rt, r, &line[0..held], b"\n", &out[0..n]);
     }
 }
 
 // Reads to the end of the input. Where a read or a write fails it says so and stops; what is then held of a line is not
 // answered, as nobody knows how that line goes on.
 // A proved loop has to end, and nothing says that input does: the turns are counted down from a number that no run uses up.
-fn run(input: &mut [u8], line: &mut [u8], kept: &mut [u8], out: &mut [u8])
+fn run(rt: &HostRuntime, input: &mut [u8], line: &mut [u8], kept: &mut [u8], out: &mut [u8])
     requires { (longest_line < length line.old) × (length line.old ≤ length kept.old) × (reply_room ≤ length out.old) }
 {
     let mut registers = session::fresh();
     let mut held: usize = 0;
     let mut turns = u64::MAX;
     while turns > 0 {
-        let got = libc::read(0, input);
-        if got < 0 {
-            tell_unread();
+        let Ok(n) = rt.stdin().read(input) else {
+            tell_unread(rt);
             return;
-        }
-        let n = io::count(got, input);
+        };
         if n == 0 {
-            end(registers, line, held, out);
+            end(rt, registers, line, held, out);
             return;
         }
-        let left = serve_piece(registers, &input[0..n], line, held, kept, out);
+        let left = serve_piece(rt, registers, &input[0..n], line, held, kept, out);
         if !left.said {
             return;
         }
@@ -131,10 +134,10 @@ fn run(input: &mut [u8], line: &mut [u8], kept: &mut [u8], out: &mut [u8])
 }
 
 // The line's space has a byte more than the longest line, so that a longer one shows.
-fn main() {
-    let mut input = io::large_buffer();
+fn main(rt: HostRuntime) {
+    let mut input = [0u8; PIECE];
     let mut line = [0u8; LONGEST_LINE + 1];
     let mut kept = [0u8; LONGEST_LINE + 1];
-    let mut out = io::large_buffer();
-    run(&mut input, &mut line, &mut kept, &mut out);
+    let mut out = [0u8; PIECE];
+    run(&rt, &mut input, &mut line, &mut kept, &mut out);
 }

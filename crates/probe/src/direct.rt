@@ -4,6 +4,7 @@ ghost use Rattle.module.specs.Laws.{Promised};
 
 use module::Answered;
 use paper::{Registers, Revision};
+use std::io::Print;
 
 // The registers in 73 bytes: root, counter, secret, and 1 where they are open.
 fn registers_in(bytes: &[u8]) -> Registers {
@@ -42,7 +43,7 @@ fn put_counts(out: &mut [u8], refused: u8, length: usize, blocks: u64) {
 }
 
 // Prints what a call came to, and the digest of the whole reply space after it.
-fn print_answered(a: Answered, space: &[u8]) {
+fn print_answered(rt: &HostRuntime, a: Answered, space: &[u8]) {
     let mut out = [0u8; 116];
     put_counts(&mut out, a.refused, a.length, a.blocks);
     let after = a.registers;
@@ -51,7 +52,7 @@ fn print_answered(a: Answered, space: &[u8]) {
     fields::put(&mut out, 84, &digest);
     let mut line = [0u8; 233];
     hexadecimal::write(&out, &mut line);
-    io::write_all(1, &line);
+    let _ = rt.write_all(&line);
 }
 
 // The call on registers where they lie, which then come back by value. A `&mut` of a struct is not covered, so its proof is
@@ -69,32 +70,33 @@ fn answer_there(r: Registers, line: &[u8], space: &mut [u8]) -> Answered
     }
 }
 
-fn call(there: bool, r: Registers, line: &[u8], space: &mut [u8]) {
+fn call(rt: &HostRuntime, there: bool, r: Registers, line: &[u8], space: &mut [u8]) {
     if there {
         let a = answer_there(r, line, space);
-        print_answered(a, space);
+        print_answered(rt, a, space);
         return;
     }
     let a = module::answer(r, line, space);
-    print_answered(a, space);
+    print_answered(rt, a, space);
 }
 
 // A question of so many bytes of reply space; its bytes are those of the registers and those of the line.
-fn ask(there: bool, size: usize, question: &[u8]) {
+fn ask(rt: &HostRuntime, there: bool, size: usize, question: &[u8]) {
     if 4400 < size {
-        crate::print_none();
+        crate::print_none(rt);
         return;
     }
     if question.len() < 73 {
-        crate::print_none();
+        crate::print_none(rt);
         return;
     }
     if 1 < question[72] {
-        crate::print_none();
+        crate::print_none(rt);
         return;
     }
     let mut space = [0xeeu8; 4400];
     call(
+        rt,
         there,
         registers_in(&question[0..73]),
         &question[73..],
@@ -102,13 +104,13 @@ fn ask(there: bool, size: usize, question: &[u8]) {
     );
 }
 
-pub(crate) fn direct_probe(line: &[u8]) {
+pub(crate) fn direct_probe(rt: &HostRuntime, line: &[u8]) {
     let mut question = [0u8; 4373];
     let n = crate::bytes_of(line, &mut question);
     if 4373 < n {
-        crate::print_none();
+        crate::print_none(rt);
         return;
     }
     let there = fields::byte_at(line, 0) == b'h';
-    ask(there, crate::size_of(line), &question[0..n]);
+    ask(rt, there, crate::size_of(line), &question[0..n]);
 }

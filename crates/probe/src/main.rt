@@ -9,11 +9,14 @@
 // The answer to r and w is the refusal number (00 where there is none) and the digest of the whole space afterwards,
 // each byte of which was ee before; to m and h, all in hexadecimal, the refusal number, the length of the reply's line in four
 // digits, the blocks, the registers afterwards and that digest. `?` answers what is none of these.
+#![tactic(auto)]
+
 ghost use Rattle.std.specs.Prelude.{◌≡◌, ◌++◌, ◌∷◌, [], ◌≤◌, length, drop};
 ghost use Rattle.probe.specs.Answer.{answer_of};
 
 use lines::{Read, Wrote};
 use pieces::Cut;
+use std::io::Print;
 
 mod direct;
 
@@ -49,18 +52,21 @@ fn answer(line: &[u8], message: &mut [u8], reply: &mut [u8]) -> usize
 }
 
 // Prints `?`.
-fn print_none() {
-    io::write_all(1, b"?\n");
+fn print_none(rt: &HostRuntime) {
+    let _ = rt.write_all(b"?\n");
 }
 
 // Prints a refusal number and the digest of a space.
-fn print_outcome(number: u8, space: &[u8]) {
-    let digits = [hexadecimal::high_digit(number), hexadecimal::low_digit(number)];
+fn print_outcome(rt: &HostRuntime, number: u8, space: &[u8]) {
+    let digits = [
+        hexadecimal::high_digit(number),
+        hexadecimal::low_digit(number),
+    ];
     let digest = sha256::digest(space);
     let mut line = [0u8; 65];
     hexadecimal::write(&digest, &mut line);
-    io::write_all(1, &digits);
-    io::write_all(1, &line);
+    let _ = rt.write_all(&digits);
+    let _ = rt.write_all(&line);
 }
 
 fn read_number(r: Read) -> u8 {
@@ -91,23 +97,23 @@ fn size_of(line: &[u8]) -> usize {
     256 * high + low
 }
 
-fn read_into(line: &[u8], space: &mut [u8]) {
+fn read_into(rt: &HostRuntime, line: &[u8], space: &mut [u8]) {
     let number = read_number(lines::read_line(line, space));
-    print_outcome(number, space);
+    print_outcome(rt, number, space);
 }
 
-fn read_probe(line: &[u8]) {
+fn read_probe(rt: &HostRuntime, line: &[u8]) {
     let size = size_of(line);
     if 4400 < size {
-        print_none();
+        print_none(rt);
         return;
     }
     if line.len() < 5 {
-        print_none();
+        print_none(rt);
         return;
     }
     let mut space = [0xeeu8; 4400];
-    read_into(&line[5..], &mut space[0..size]);
+    read_into(rt, &line[5..], &mut space[0..size]);
 }
 
 // The bytes that the digits behind a probe's size stand for, and how many; 65,536 where they stand for none or do not fit.
@@ -128,54 +134,53 @@ fn bytes_of(line: &[u8], space: &mut [u8]) -> usize {
     digits.len() / 2
 }
 
-fn write_into(frame: &[u8], space: &mut [u8]) {
+fn write_into(rt: &HostRuntime, frame: &[u8], space: &mut [u8]) {
     let number = write_number(lines::write_frame(frame, space));
-    print_outcome(number, space);
+    print_outcome(rt, number, space);
 }
 
-fn write_probe(line: &[u8]) {
+fn write_probe(rt: &HostRuntime, line: &[u8]) {
     let size = size_of(line);
     if 4400 < size {
-        print_none();
+        print_none(rt);
         return;
     }
     let mut frame = [0u8; 4096];
     let n = bytes_of(line, &mut frame);
     if 4096 < n {
-        print_none();
+        print_none(rt);
         return;
     }
     let mut space = [0xeeu8; 4400];
-    write_into(&frame[0..n], &mut space[0..size]);
+    write_into(rt, &frame[0..n], &mut space[0..size]);
 }
 
-fn message_probe(line: &[u8]) {
+fn message_probe(rt: &HostRuntime, line: &[u8]) {
     let mut message = [0u8; 8192];
     let mut reply = [0u8; 65];
     let n = answer(line, &mut message, &mut reply);
     if n <= 65 {
-        io::write_all(1, &reply[0..n]);
+        let _ = rt.write_all(&reply[0..n]);
     }
 }
 
 // Answers the question in the first n bytes of the line's space.
-fn print_answer(space: &[u8], n: usize) {
+fn print_answer(rt: &HostRuntime, space: &[u8], n: usize) {
     if space.len() < n {
         return;
     }
     let line = &space[0..n];
     match fields::byte_at(line, 0) {
-        b'r' => read_probe(line),
-        b'w' => write_probe(line),
-        b'm' | b'h' => direct::direct_probe(line),
-        _ => message_probe(line),
+        b'r' => read_probe(rt, line),
+        b'w' => write_probe(rt, line),
+        b'm' | b'h' => direct::direct_probe(rt, line),
+        _ => message_probe(rt, line),
     }
 }
 
 // A read that fails is not the end of the input.
-fn tell_unread() {
-    io::write_all(
-        2,
+fn tell_unread(rt: &HostRuntime) {
+    let _ = rt.stderr().write_all(
         b"probe: standard input could not be read; the program stops here\n",
     );
 }
@@ -183,7 +188,7 @@ fn tell_unread() {
 // Cuts question after question out of the piece at hand, and reads the next piece where it is used up.
 // A proved loop has to end, and nothing says that input does: the turns are counted down from a number
 // that no run uses up.
-fn run(input: &mut [u8], line: &mut [u8]) {
+fn run(rt: &HostRuntime, input: &mut [u8], line: &mut [u8]) {
     let mut size: usize = 0;
     let mut at: usize = 0;
     let mut held: usize = 0;
@@ -192,20 +197,19 @@ fn run(input: &mut [u8], line: &mut [u8]) {
         turns -= 1;
         match pieces::next_line(&input[0..size], at, line, held) {
             Cut::Line(next, len) => {
-                print_answer(line, len);
+                print_answer(rt, line, len);
                 at = next;
                 held = 0;
             }
             Cut::More(len) => {
-                let got = libc::read(0, input);
-                if got < 0 {
-                    tell_unread();
+                let Ok(n) = std::io::Read::read(&mut rt.stdin(), input) else {
+                    tell_unread(rt);
                     return;
-                }
-                size = io::count(got, input);
+                };
+                size = n;
                 if size == 0 {
                     if 0 < len {
-                        print_answer(line, len);
+                        print_answer(rt, line, len);
                     }
                     return;
                 }
@@ -216,8 +220,8 @@ fn run(input: &mut [u8], line: &mut [u8]) {
     }
 }
 
-fn main() {
-    let mut input = io::large_buffer();
+fn main(rt: HostRuntime) {
+    let mut input = [0u8; 65536];
     let mut line = [0u8; 16385];
-    run(&mut input, &mut line);
+    run(&rt, &mut input, &mut line);
 }

@@ -1,51 +1,49 @@
 // A program for tests: it answers lines as `knotcinder` does, and behind each reply stand, in decimal, the number of its
 // refusal, 0 where there is none, and the SHA-256 blocks worked. One line at a time: its speed is nobody's concern.
+#![tactic(auto)]
+
 use paper::{LONGEST_LINE, REPLY_ROOM, Registers};
 use pieces::Cut;
+use std::io::{Print, Read};
 
 // Prints a reply of n bytes without its 0A, and behind it the numbers; nothing where there is no reply.
-fn print_reply(reply: &[u8], n: usize, refused: u8, blocks: u64) {
+fn print_reply(rt: &HostRuntime, reply: &[u8], n: usize, refused: u8, blocks: u64) {
     if 0 < n {
         if n <= reply.len() {
-            io::write_all(1, &reply[0..n - 1]);
-            io::write_all(1, b" ");
-            io::print_decimal(1, refused as u64);
-            io::write_all(1, b" ");
-            io::print_decimal(1, blocks);
-            io::write_all(1, b"\n");
+            let _ = rt.write_all(&reply[0..n - 1]);
+            let _ = println!(rt; " {refused} {blocks}");
         }
     }
 }
 
 // The line in the first n bytes of its space.
-fn answer_line(r: Registers, line: &[u8], n: usize) -> Registers {
+fn answer_line(rt: &HostRuntime, r: Registers, line: &[u8], n: usize) -> Registers {
     if line.len() < n {
         return r;
     }
     let mut reply = [0u8; REPLY_ROOM];
     let a = module::answer(r, &line[0..n], &mut reply);
-    print_reply(&reply, a.length, a.refused, a.blocks);
+    print_reply(rt, &reply, a.length, a.refused, a.blocks);
     a.registers
 }
 
 // A last line without 0A, if anything is held of one.
-fn end(r: Registers, line: &[u8], held: usize) {
+fn end(rt: &HostRuntime, r: Registers, line: &[u8], held: usize) {
     let mut reply = [0u8; REPLY_ROOM];
     let a = session::finish(r, line, held, &mut reply);
-    print_reply(&reply, a.length, a.refused, a.blocks);
+    print_reply(rt, &reply, a.length, a.refused, a.blocks);
 }
 
 // A read that fails is not the end of the input.
-fn tell_unread() {
-    io::write_all(
-        2,
+fn tell_unread(rt: &HostRuntime) {
+    let _ = rt.stderr().write_all(
         b"trace: standard input could not be read; the program stops here\n",
     );
 }
 
 // Cuts line after line out of the piece at hand, and reads the next piece where it is used up, to the end of the input; the turns
 // are counted down, as a proved loop has to end.
-fn run(input: &mut [u8], line: &mut [u8]) {
+fn run(rt: &HostRuntime, input: &mut [u8], line: &mut [u8]) {
     let mut registers = session::fresh();
     let mut size: usize = 0;
     let mut at: usize = 0;
@@ -55,19 +53,18 @@ fn run(input: &mut [u8], line: &mut [u8]) {
         turns -= 1;
         match pieces::next_line(&input[0..size], at, line, held) {
             Cut::Line(next, len) => {
-                registers = answer_line(registers, line, len);
+                registers = answer_line(rt, registers, line, len);
                 at = next;
                 held = 0;
             }
             Cut::More(len) => {
-                let got = libc::read(0, input);
-                if got < 0 {
-                    tell_unread();
+                let Ok(n) = rt.stdin().read(input) else {
+                    tell_unread(rt);
                     return;
-                }
-                size = io::count(got, input);
+                };
+                size = n;
                 if size == 0 {
-                    end(registers, line, len);
+                    end(rt, registers, line, len);
                     return;
                 }
                 at = 0;
@@ -77,8 +74,8 @@ fn run(input: &mut [u8], line: &mut [u8]) {
     }
 }
 
-fn main() {
-    let mut input = io::large_buffer();
+fn main(rt: HostRuntime) {
+    let mut input = [0u8; 65536];
     let mut line = [0u8; LONGEST_LINE + 1];
-    run(&mut input, &mut line);
+    run(&rt, &mut input, &mut line);
 }
