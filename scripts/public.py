@@ -3,7 +3,7 @@
 A public function is one that code outside its crate can call, or could as soon as one line changes:
 - `pub fn`, also with `const`, `unsafe` or `extern "C"` between the two, with attributes before it, and wherever it stands:
   in a module that is itself private too, since `pub mod` in another file would open that without anybody looking here;
-- a `#[no_mangle]` function without `pub`, since a program in another language finds it all the same.
+- a `#[unsafe(no_mangle)]` function without `pub`, since a program in another language finds it all the same.
 `pub(crate) fn` and a plain `fn` are not public. What stands in comments or between quotation marks is no code.
 A public function is called `crate::function`, whatever module it stands in; so no two of a crate may have one name.
 """
@@ -14,7 +14,7 @@ Function = collections.namedtuple("Function", "name source clauses")
 
 NO_CODE = re.compile(r'//[^\n]*|/\*.*?\*/|"(?:\\.|[^"\\])*"', re.S)
 ATTRIBUTE = r"#\[[^\]]*\]\s*"
-HEAD = re.compile(rf'(?:\bpub\s+|#\[no_mangle\]\s*(?:{ATTRIBUTE})*)(?:const\s+|unsafe\s+|extern\s*""\s*)*fn\s+(\w+)')
+HEAD = re.compile(rf'(?:\bpub\s+|#\[unsafe\(no_mangle\)\]\s*(?:{ATTRIBUTE})*)(?:const\s+|unsafe\s+|extern\s*""\s*)*fn\s+(\w+)')
 FIRST_CLAUSE = re.compile(r"(?:requires|ensures|ghost)\b")
 CLAUSE = re.compile(r"\s*([a-z]+)\b[^{;]*\{")
 EXCUSED = re.compile(r"`(\w+::\w+)`")
