@@ -1,5 +1,7 @@
 // The digests of docs/PROTOCOL.md, section 3: leaf, parent, record hash and the memoranda, each with the count of blocks
 // that it took (§10.1.1).
+#![tactic(auto)]
+
 ghost use Rattle.std.specs.Prelude.{◌≡◌, ◌≤◌, length};
 ghost use Rattle.sha256.specs.Hash.{sha256};
 ghost use Rattle.paper.specs.Strings as S;
@@ -10,7 +12,7 @@ ghost use Rattle.digests.specs.Speaking.{AllWhole, SaidAs, Spoken, made_of};
 use paper::{Item, Record};
 
 // A digest, and the blocks worked for it.
-#[derive(Drop)]
+#[derive(Clone, Copy)]
 pub struct Digest {
     pub bytes: [u8; 32],
     pub blocks: u64,
@@ -18,7 +20,7 @@ pub struct Digest {
 
 // What a memorandum says: its tag and its digests over the front of an array, and how many bytes these are. The array has room
 // for the secret behind as many bytes as the length can tell, so that a memorandum can be made of any such value.
-#[derive(Drop)]
+#[derive(Clone, Copy)]
 pub struct Says {
     pub bytes: [u8; 287],
     pub length: u8,

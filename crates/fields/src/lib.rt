@@ -1,5 +1,7 @@
 // Numbers, most significant byte first, and digests of 32 bytes in byte slices: read, put, compared. Every
 // function is total: a byte that is not there counts as 0, and what does not fit is not put.
+#![tactic(auto)]
+
 ghost use Rattle.std.specs.Prelude.{◌≡◌, ◌+◌, ◌≤◌, length, get_or};
 ghost use Rattle.seqs.specs.Bytes.{be64, number8, number_at, digest_at, same, all_zero};
 ghost use Rattle.seqs.specs.Over.{put_at};

@@ -1,4 +1,6 @@
 // Bytes from hexadecimal digits and back: lower-case digits, two to a byte, and 0A (§4.1.2).
+#![tactic(auto)]
+
 ghost use Rattle.std.specs.Prelude.{◌≡◌, ◌++◌, ◌+◌, ◌*◌, ◌/◌, ◌%◌, ◌≤◌, ◌<◌, leb, length, get_or, drop};
 ghost use Rattle.hexadecimal.specs.Hex.{is_digit, value_of, digit_of, all_digits, bytes_of, line_of};
 ghost use Rattle.seqs.specs.Over.{written};

@@ -1,4 +1,6 @@
 // Lines: read into frames, written from them, and the lines of replies (docs/PROTOCOL.md, section 4).
+#![tactic(auto)]
+
 ghost use Rattle.std.specs.Prelude.{◌≡◌, [], ◌∷◌, ◌/◌, ◌^◌, ◌≤◌, eqb, length};
 ghost use Rattle.seqs.specs.Bytes.{number_at};
 ghost use Rattle.seqs.specs.Over.{written};
@@ -12,14 +14,14 @@ ghost use Rattle.lines.specs.Work.{fitting, refusal_by};
 use paper::{BEFORE_SIBLINGS, LONGEST_FRAME, LONGEST_LINE};
 
 // What reading a line finds: its kind and how many bytes were written, or the number of the refusal.
-#[derive(Drop)]
+#[derive(Clone, Copy)]
 pub enum Read {
     Frame(u8, usize),
     Refused(u8),
 }
 
 // What writing a frame did: how many bytes of the line were written, or the number of the refusal.
-#[derive(Drop)]
+#[derive(Clone, Copy)]
 pub enum Wrote {
     Line(usize),
     Rejected(u8),

@@ -39,6 +39,7 @@ number_in ns (d ∷ cs) c h (Memᴰ.head e) =
     in_list c.number ns
     (subst (λ (x : Check). among x.number ns ≡ true) (sym e) (both_true (among d.number ns) (numbered ns cs) h).0)
 number_in ns (d ∷ cs) c h (Memᴰ.tail m) = number_in ns cs c (both_true (among d.number ns) (numbered ns cs) h).1 m
+number_in ns [] c h x'' = elim x'' [ ]
 
 later : (n : ℕ) → among n request_order ≡ true → among n order ≡ true
 later n h = rw (h, either_yes, either_yes, either_yes, either_yes) refl
@@ -86,10 +87,12 @@ module _ (D : List ℕ → Dig) where
   of_first : (s : Registers) (before : List Str) (says : List Memo) (m : Dig) → Comparing D (first_memo D s before says m)
   of_first s before says m n (Memᴰ.head e) =
       (inl refl, λ h. let f = fitting s.secret says m h in (f.0, Memᴰ.append_right before f.1, f.2 ∙ sym e))
+  of_first s before says m n (Memᴰ.tail x4) = elim x4 [ ]
 
   of_second : (s : Registers) (says : Memo) (m : Dig) → Comparing D (second_memo D s says m)
   of_second s says m n (Memᴰ.head e) =
       (inr refl, λ h. let f = fitting s.secret (says ∷ []) m h in (f.0, f.1, f.2 ∙ sym e))
+  of_second s says m n (Memᴰ.tail x4) = elim x4 [ ]
 
   of_change : (s : Registers) (A A' : ℕ) (old new : Record) (y y' m : Dig)
       → Comparing D (first_memo D s (change_forms D A A' old new) (change_says D A A' old new y y' ∷ []) m)

@@ -45,15 +45,18 @@ in_those c (d ∷ cs) (Memᴰ.tail m) = behind (eqb d.number c.number) (in_those
         → Memᴰ c (pick b (d ∷ those c.number cs) (those c.number cs))
     behind true i = Memᴰ.tail i
     behind false i = i
+in_those c [] x' = elim x' [ ]
 
 pub fails_not : (c : Check) (cs : List Check) → any_fails cs ≡ false → Memᴰ c cs → c.fails ≡ false
 fails_not c (d ∷ cs) h (Memᴰ.head e) = ap (λ (x : Check). x.fails) e ∙ (either_false d.fails (any_fails cs) h).0
 fails_not c (d ∷ cs) h (Memᴰ.tail m) = fails_not c cs (either_false d.fails (any_fails cs) h).1 m
+fails_not c [] h x'' = elim x'' [ ]
 
 pub in_forms : (x : Str) (c : Check) (cs : List Check) → Memᴰ c cs → Memᴰ x c.forms → Memᴰ x (forms_all cs)
 in_forms x c (d ∷ cs) (Memᴰ.head e) m =
     Memᴰ.append_right (forms_all cs) (subst (λ (y : Check). Memᴰ x y.forms) e m)
 in_forms x c (d ∷ cs) (Memᴰ.tail i) m = Memᴰ.append_left d.forms (in_forms x c cs i m)
+in_forms x c [] x3 m = elim x3 [ ]
 
 -- ── a verdict's number, and its strings ──
 

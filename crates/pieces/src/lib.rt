@@ -1,9 +1,11 @@
 // Lines cut out of pieces of input.
+#![tactic(auto)]
+
 ghost use Rattle.std.specs.Prelude.{◌≡◌};
 ghost use Rattle.pieces.specs.Cutting.{sought_in, cut_of};
 
 // What the rest of a piece gave.
-#[derive(Drop)]
+#[derive(Clone, Copy)]
 pub enum Cut {
     // A whole line: where the rest of the piece begins, and how many bytes of the space are the line's.
     Line(usize, usize),

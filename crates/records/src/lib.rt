@@ -1,5 +1,7 @@
 // Items and records by their numbers: whether a record stands for none, whether it is malformed, whether a mass is silly, a record's
 // bytes, and the gap behind an item. No digest is worked here.
+#![tactic(auto)]
+
 ghost use Rattle.std.specs.Prelude.{◌≡◌};
 ghost use Rattle.paper.specs.Strings as S;
 

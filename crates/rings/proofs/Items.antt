@@ -18,6 +18,7 @@ module _ {R : Type 0} where
   pub record_at : (P : R → Type 0) (l : List (ListItem R)) (a : ℕ) (r : R) → AllRecords P l → OnList a r l → P r
   record_at P (item_with b s ∷ l) a r g (Memᴰ.head e) = let p : s ≡ r = cc in subst P p g.0
   record_at P (item_with b s ∷ l) a r g (Memᴰ.tail m) = record_at P l a r g.1 m
+  record_at P [] a r g x'' = elim x'' [ ]
 
   pub all_more : (P Q : R → Type 0) (l : List (ListItem R)) → ((r : R) → P r → Q r) → AllRecords P l → AllRecords Q l
   all_more P Q [] f g = tt

@@ -1,5 +1,7 @@
 // A tablet's leaves in lent memory, six numbers each: A, A' and the record. Every function is total: a number that is not there
 // counts as 0, and what does not fit is not put.
+#![tactic(auto)]
+
 ghost use Rattle.std.specs.Prelude.{◌≡◌, ◌+◌, ◌*◌, ◌<◌, get_or};
 ghost use Rattle.rows.specs.Rows.{row_numbers, row_at, row_put, passing, seek};
 
@@ -9,7 +11,7 @@ use paper::{Item, Kilograms, Millimetres, Record, Revision, Rigging};
 pub const NUMBERS: usize = 6;
 
 // A leaf, with its item's record in full.
-#[derive(Drop)]
+#[derive(Clone, Copy)]
 pub struct Row {
     pub item: Item,
     pub next: Item,
@@ -18,7 +20,7 @@ pub struct Row {
 
 // What is sought: the leaf of an item, the one that leads to it, the one whose gap holds it, or the one that answers a question on
 // it, its own or the one whose gap holds it.
-#[derive(Drop)]
+#[derive(Clone, Copy)]
 pub enum Search {
     Own,
     Leading,

@@ -1,1 +1,2 @@
 // Laws on lists and buffers that the proofs of every loop cite. No code: see specs/.
+#![tactic(auto)]

@@ -2,6 +2,8 @@
 //
 // Callers use `digest`, `blocks` and the definitions `sha256` and `blocks` of specs/ only: how a block's
 // words are scheduled and worked is this crate's own business.
+#![tactic(auto)]
+
 ghost use Rattle.std.specs.Prelude.{◌≡◌, ◌+◌, ◌≤◌, length};
 ghost use Rattle.std.proofs.lemmas.List.Edits.{sets};
 ghost use Rattle.seqs.specs.Bytes.{be32};
@@ -18,7 +20,7 @@ mod schedule;
 mod words;
 
 // The eight words of a hash value, and of the working variables.
-#[derive(Drop)]
+#[derive(Clone, Copy)]
 pub struct State {
     pub a: u32,
     pub b: u32,

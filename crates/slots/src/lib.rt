@@ -1,6 +1,8 @@
 // The tablet's tree in lent memory: 1,024 slots under ten levels, kept as the digests of all nodes, so that one leaf changed costs
 // the ten nodes above it and no more. Node 1 is the root, node v stands over nodes 2v and 2v + 1, slot i is node 1024 + i, and
 // node v's digest lies at byte 32v. Every function is total: a byte that is not there counts as 0, and what does not fit is not put.
+#![tactic(auto)]
+
 ghost use Rattle.std.specs.Prelude.{◌≡◌, ◌%◌, length, replicate};
 ghost use Rattle.sha256.specs.Hash.{sha256};
 ghost use Rattle.paper.specs.Strings.{up};
