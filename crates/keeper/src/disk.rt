@@ -8,7 +8,7 @@ ghost use Rattle.rows.specs.Rows.{rows_from};
 
 use std::fs::File;
 use std::io::Write;
-use std::{fs, io};
+use std::{fs, io, str};
 
 // The bytes of 1,024 lines.
 pub const TEXT: usize = 99328;
@@ -34,25 +34,32 @@ fn sync_open(opened: io::Result<File>) -> bool {
     }
 }
 
-fn sync_folder(rt: &HostRuntime, path: &str) -> bool {
-    let n = folder_length(path.as_bytes());
-    match path.get(..n) {
-        Some(folder) if !folder.is_empty() => sync_open(File::open(rt, folder)),
-        _ => sync_open(File::open(rt, ".")),
+fn sync_folder(rt: &HostRuntime, path: &[u8]) -> bool {
+    let n = folder_length(path);
+    if n == 0 {
+        return sync_open(File::open(rt, "."));
     }
+    let Ok(folder) = str::from_utf8(&path[0..n]) else {
+        return false;
+    };
+    sync_open(File::open(rt, folder))
 }
 
-// The one place that writes the store. The caller has to show that the bytes are those of the leaves.
+// The one place that writes the store. The caller has to show that the bytes are those of the leaves. Paths are UTF-8 text here: one
+// that is not cannot be written.
 fn write_store(
     rt: &HostRuntime,
     leaves: &[u64],
     count: usize,
     bytes: &[u8],
-    path: &str,
-    other: &str,
+    path: &[u8],
+    other: &[u8],
 ) -> bool
     requires { bytes.now ≡ text_of (rows_from leaves.now count 0) }
 {
+    let (Ok(name), Ok(other)) = (str::from_utf8(path), str::from_utf8(other)) else {
+        return false;
+    };
     let Ok(mut file) = File::create(rt, other) else {
         return false;
     };
@@ -62,7 +69,7 @@ fn write_store(
     if !sync_open(Ok(file)) {
         return false;
     }
-    if fs::rename(rt, other, path).is_err() {
+    if fs::rename(rt, other, name).is_err() {
         return false;
     }
     sync_folder(rt, path)
@@ -73,8 +80,8 @@ fn keep_changed(
     leaves: &[u64],
     count: usize,
     text: &mut [u8],
-    path: &str,
-    other: &str,
+    path: &[u8],
+    other: &[u8],
 ) -> bool
     ensures { text.new ≡ written (text_of (rows_from leaves.now count 0)) text.old }
 {
@@ -99,8 +106,8 @@ pub fn keep(
     leaves: &[u64],
     count: usize,
     text: &mut [u8],
-    path: &str,
-    other: &str,
+    path: &[u8],
+    other: &[u8],
 ) -> bool
     ensures { text.new ≡ pick changed (written (text_of (rows_from leaves.now count 0)) text.old)
         text.old }

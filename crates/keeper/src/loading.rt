@@ -6,6 +6,7 @@ ghost use Rattle.keeper.specs.Opening.{OpenedAs};
 use memory::Loaded;
 use std::fs::File;
 use std::io::{ErrorKind, Print, Read};
+use std::str;
 use store::Lines;
 
 // So many leaves are held, or the store could not be loaded, which was told.
@@ -162,10 +163,11 @@ fn open_read(
 }
 
 // A missing store is an empty one. What is held is what some text loads to, and where the store is shut memory is as it was; that the
-// text is the file's, and what then stands in the two buffers, is for the system to see to.
+// text is the file's, and what then stands in the two buffers, is for the system to see to. Paths are UTF-8 text here: one that is not
+// cannot be read.
 pub fn open(
     rt: &HostRuntime,
-    path: &str,
+    path: &[u8],
     text: &mut [u8],
     more: &mut [u8],
     leaves: &mut [u64],
@@ -173,6 +175,9 @@ pub fn open(
 ) -> Opened
     ensures { OpenedAs result leaves.old nodes.old leaves.new nodes.new }
 {
+    let Ok(path) = str::from_utf8(path) else {
+        return tell_unreadable(rt);
+    };
     match File::open(rt, path) {
         Ok(mut file) => open_read(rt, &mut file, text, more, leaves, nodes),
         Err(e) => {

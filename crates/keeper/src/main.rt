@@ -15,7 +15,6 @@ use pieces::Cut;
 use std::env::FillError;
 use std::io::{Print, Read};
 use std::rt::Env;
-use std::str;
 use turns::Desk;
 
 // A longer line is none: the longest reply that is ever awaited has 194 digits, the longest wish 87 bytes.
@@ -74,8 +73,8 @@ fn answer(
     nodes: &mut [u8],
     out: &mut [u8],
     text: &mut [u8],
-    path: &str,
-    other: &str,
+    path: &[u8],
+    other: &[u8],
 ) -> Left
     ensures desk_value { result.desk ≡ (turn_of sha256 d line.now leaves.old nodes.old).desk }
     ensures leaves_after { leaves.new ≡ leaves_after d line.now leaves.old }
@@ -111,8 +110,8 @@ fn serve_piece(
     nodes: &mut [u8],
     out: &mut [u8],
     text: &mut [u8],
-    path: &str,
-    other: &str,
+    path: &[u8],
+    other: &[u8],
 ) -> Left
     requires { held ≤ length line.old }
     ensures { result.held ≤ length line.old }
@@ -169,8 +168,8 @@ fn finish(
     nodes: &mut [u8],
     out: &mut [u8],
     text: &mut [u8],
-    path: &str,
-    other: &str,
+    path: &[u8],
+    other: &[u8],
 ) -> Left
     requires { held ≤ length line.now }
     ensures { result.held ≡ 0 }
@@ -202,8 +201,8 @@ fn read_on(
     nodes: &mut [u8],
     out: &mut [u8],
     text: &mut [u8],
-    path: &str,
-    other: &str,
+    path: &[u8],
+    other: &[u8],
 ) -> Left
     requires { held ≤ length line.old }
     ensures { result.held ≤ length line.old }
@@ -245,8 +244,8 @@ fn run(
     nodes: &mut [u8],
     out: &mut [u8],
     text: &mut [u8],
-    path: &str,
-    other: &str,
+    path: &[u8],
+    other: &[u8],
 ) {
     let mut desk = turns::start(count);
     let mut held: usize = 0;
@@ -266,7 +265,7 @@ fn run(
 }
 
 // The store's name and the other one, under which it is first written.
-fn start(rt: &HostRuntime, path: &str, other: &str) {
+fn start(rt: &HostRuntime, path: &[u8], other: &[u8]) {
     let mut leaves = [0u64; memory::LEAVES];
     let mut nodes = [0u8; memory::NODES];
     let mut text = [0u8; disk::TEXT];
@@ -328,14 +327,5 @@ fn main(rt: HostRuntime) {
     }
     fields::put(&mut other, 0, &path[0..n]);
     fields::put(&mut other, n, b".new");
-    let (Ok(path), Ok(other)) = (
-        str::from_utf8(&path[0..n]),
-        str::from_utf8(&other[0..n + 4]),
-    ) else {
-        let _ = rt
-            .stderr()
-            .write_all(b"keeper: the store's name is not UTF-8\n");
-        return;
-    };
-    start(&rt, path, other);
+    start(&rt, &path[0..n], &other[0..n + 4]);
 }

@@ -55,8 +55,7 @@ fn print_answered(rt: &HostRuntime, a: Answered, space: &[u8]) {
     let _ = rt.write_all(&line);
 }
 
-// The call on registers where they lie, which then come back by value. A `&mut` of a struct is not covered, so its proof is
-// a walk by hand.
+// The call on registers where they lie, which then come back by value.
 fn answer_there(r: Registers, line: &[u8], space: &mut [u8]) -> Answered
     ensures { Promised r line.now space.old result space.new }
 {
