@@ -71,7 +71,7 @@ memo_check number k ts m =
     record { number = number; fails = none_fits sha256 k ts m; forms = tried sha256 k ts m; compares = m ∷ [] }
 
 -- What `compare`, `compare_either` and `issue` do with words of any kind. Where the words are a memorandum's, the first two are
--- a `memo_check`, and the third is the answer with that memorandum (`proofs/Steps`: `Fits-one`, `fits_either`, `issues_it`).
+-- a `memo_check`, and the third is the answer with that memorandum (`proofs/Steps`: `fits_one`, `fits_either`, `issues_it`).
 unfoldable pub comparing : Judged → (number : ℕ) → Says → (secret m : Dig) → Judged
 comparing j number s k m =
     pick j.stopped j

@@ -22,7 +22,7 @@ pub record Spoken (s : Says) (t : Memo) : Type 0 where
   pub is : SaidAs s (memo_tag t) (memo_digests t)
 
 -- the digest of what is said with the secret behind it, whatever is said; of what a memorandum says, the memorandum
--- (`proofs/Speaking`, `made_of`)
+-- (`proofs/Speaking`, `made_of_lem`)
 unfoldable pub made_of : Says → (secret : Dig) → Digest
 made_of s k = record { bytes = sha256 (take s.length s.bytes ++ k); blocks = blocks (s.length + 32) }
 
