@@ -7,7 +7,7 @@ help: ## says this
 demo: ## builds what is needed, and plays the accident that the module prevents
 	@scripts/demo
 
-test: ## runs every test and every proof from nothing; the last line is `N passed, 0 failed`
+test: ## runs every test and every proof; the last line is `N passed, 0 failed`
 	@scripts/test
 
 build: ## proves and builds the programs of bin/knotcinder and bin/keeper, and builds that of bin/explain
