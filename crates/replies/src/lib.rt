@@ -1,7 +1,8 @@
 //! What a request comes to: its refusal or answer, as values.
 #![tactic(auto)]
 
-ghost use Rattle.std.specs.Prelude.{◌≡◌, List, [], ◌∷◌, ℕ, length, take, drop, replicate};
+ghost use Rattle.std.specs.Prelude.{◌≡◌, ◌≤◌, [], ◌∷◌, length};
+ghost use Rattle.replies.specs.Replies.{room};
 ghost use Rattle.replies.specs.Outcomes.{listed, refusal, acceptance};
 
 use paper::Registers;
@@ -55,7 +56,8 @@ impl Reply {
 
     /// The bytes that the reply is.
     pub fn as_slice(&self) -> &[u8]
-        ensures { result.now ≡ self.now }
+        ensures is { result.now ≡ self.now }
+        ensures short { length self.now ≤ room }
     {
         &self.bytes[..self.length]
     }
