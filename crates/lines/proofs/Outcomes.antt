@@ -38,7 +38,7 @@ abbrev outcome : {A : Type 0} → A → (ℕ → A) → ℕ → A
 outcome good bad n = pick (eqb n 0) good (bad n)
 
 -- a refusal has a number
-refusal_some : (e : Refusal) → ¬ (refusal_number e ≡ 0)
+pub refusal_some : (e : Refusal) → ¬ (refusal_number e ≡ 0)
 refusal_some Refusal.Line h = absurd (omega arith)
 refusal_some Refusal.Kind h = absurd (omega arith)
 refusal_some Refusal.Frame h = absurd (omega arith)
