@@ -14,9 +14,7 @@ use Rattle.paper.specs.Refusals.{Check, Passed, FirstToApply}
 use Rattle.paper.specs.Module.{line_order, read_checks, write_checks, read_refusal, write_refusal}
 use Rattle.paper.proofs.Early.{among}
 use Rattle.paper.proofs.Verdicts.{first_of, refusal_first, first_given, first_only_lem, passed_none}
-use Rattle.lines.specs.declared.Read.TheVariants.{Frame, Refused}
-use Rattle.lines.specs.declared.Wrote.TheVariants.{Line, Rejected}
-use Rattle.lines.specs.Reading.{read_of, wrote_of}
+use Rattle.lines.specs.Reading.{Frame, Refused, Line, Rejected, read_told, read_of, wrote_told, wrote_of}
 use Rattle.lines.specs.Laws.{FirstOfFour, ReadIsFirst, WriteIsFirst}
 
 -- 0 is none of the numbers
@@ -60,7 +58,7 @@ read_chosen line space =
 
 pub read_is_first : ReadIsFirst
 read_is_first line space after r p =
-    first_by (Frame (kind_of (bytes_of line)) (length (bytes_of line))) (λ n. Refused n) (read_checks line (length space)) r
+    first_by (Frame (kind_of (bytes_of line)) (length (bytes_of line))) (λ n. Refused n) (read_checks line (length space)) (read_told r)
     (p.returned ∙ read_chosen line (length space))
 
 write_chosen : (f : List ℕ) (space : ℕ) → wrote_of f space
@@ -72,5 +70,5 @@ write_chosen f space =
 
 pub write_is_first : WriteIsFirst
 write_is_first f space after r p =
-    first_by (Line (2 * length f + 1)) (λ n. Rejected n) (write_checks f (length space)) r
+    first_by (Line (2 * length f + 1)) (λ n. Rejected n) (write_checks f (length space)) (wrote_told r)
     (p.returned ∙ write_chosen f (length space))
