@@ -6,8 +6,8 @@ use Prim.Native.Nat.{ℕ, ◌<◌}
 use native.Mathlib.Omega.{arith}
 use native.Mathlib.Decide.{dec_lt}
 use borrow.Author.Tests.{lt-ltb, le-ltb}
-use Rattle.std.specs.Prelude.{Some, None}
-use Rattle.seqs.specs.First.{first_passes, first_nowhere, first_reaches}
+use Rattle.std.specs.Prelude.{Some, None, unwrap_or}
+use Rattle.seqs.specs.First.{first_most, first_passes, first_nowhere, first_reaches}
 use Rattle.rows.specs.declared.Row.{Row}
 use Rattle.rows.specs.Rows.{row_at, seek, found}
 
@@ -28,3 +28,11 @@ module _ (p : Row → Bool) (m : List ℕ) (k : ℕ) where
 
   pub found_none : NonePass p m k → found p m k ≡ None
   found_none none = rw (first_nowhere (λ i. p (row_at m i)) k none, le-ltb k k (omega arith)) refl
+
+  -- in place of none, the place behind them
+  pub found_or : unwrap_or (found p m k) k ≡ seek p m k 0
+  found_or =
+      elim (dec_lt (seek p m k 0) k) [
+        | yes l ↦ rw (lt-ltb (seek p m k 0) k l) refl
+        | no n ↦ rw (le-ltb (seek p m k 0) k (omega arith)) (omega (arith, first_most (λ i. p (row_at m i)) k))
+      ]

@@ -4,7 +4,8 @@ use Rattle.std.specs.Prelude.{Bool, List, [], ◌∷◌, ℕ, zero, suc, ◌+◌
 use Rattle.seqs.specs.Choose.{pick, either}
 use Rattle.seqs.specs.First.{first_from}
 use Rattle.seqs.specs.Over.{put_at}
-use Rattle.paper.specs.Strings.{numbers, in_gap}
+use Rattle.paper.specs.Strings.{Dig, digest_of, numbers, in_gap}
+use Rattle.paper.specs.Refusals.{leaf_of}
 use Rattle.rows.specs.declared.Row.{Row}
 use Rattle.rows.specs.declared.Search.{Search}
 use Rattle.rows.specs.declared.Search.TheVariants.{Own, Leading, Gap, Telling}
@@ -41,6 +42,10 @@ numbers_in r = r.item.0 ∷ r.next.0 ∷ numbers r.entry
 
 unfoldable pub row_put : List ℕ → (i : ℕ) → Row → List ℕ
 row_put m i r = put_at m (row_numbers * i) (numbers_in r)
+
+-- a leaf's digest, for any digest D
+abbrev pub row_digest : (D : List ℕ → Dig) → Row → Dig
+row_digest D r = digest_of D (leaf_of D r.item.0 r.next.0 r.entry)
 
 -- ── searches ──
 

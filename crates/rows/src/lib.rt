@@ -11,7 +11,7 @@ use paper::{Item, Kilograms, Millimetres, Record, Revision, Rigging};
 pub const NUMBERS: usize = 6;
 
 /// A leaf, with its item's record in full.
-#[derive(Clone, Copy)]
+#[derive(Clone, Copy, Debug, PartialEq, Eq)]
 pub struct Row {
     pub item: Item,
     pub next: Item,
@@ -36,7 +36,7 @@ impl Row {
 
 /// What is sought: the leaf of an item, the one that leads to it, the one whose gap holds it, or the one that answers a question on
 /// it, its own or the one whose gap holds it.
-#[derive(Clone, Copy)]
+#[derive(Clone, Copy, Debug, PartialEq, Eq)]
 pub enum Search {
     Own,
     Leading,
@@ -85,10 +85,10 @@ fn passes(by: Search, a: Item, r: Row) -> bool
     ensures { result ≡ passing by a.0 r }
 {
     match by {
-        Search::Own => a.0 == r.item.0,
-        Search::Leading => a.0 == r.next.0,
+        Search::Own => a == r.item,
+        Search::Leading => a == r.next,
         Search::Gap => records::in_gap(a, r.item, r.next),
-        Search::Telling => a.0 == r.item.0 || records::in_gap(a, r.item, r.next),
+        Search::Telling => a == r.item || records::in_gap(a, r.item, r.next),
     }
 }
 
