@@ -1,6 +1,6 @@
 -- The numbers of the tables' rows (docs/PROTOCOL.md, 5.1 and 6.2).
-use Rattle.std.specs.Prelude.{◌≡◌, Bool, true, false, List, [], ◌∷◌, ℕ, eqb, Result, MatchResult}
-use Rattle.seqs.specs.Choose.{pick, either}
+use Rattle.std.specs.Prelude.{◌≡◌, Bool, false, List, [], ◌∷◌, ℕ, eqb, Result, MatchResult}
+use Rattle.seqs.specs.Choose.{either}
 use Rattle.paper.specs.declared.Refusal.{Refusal}
 use Rattle.paper.specs.declared.Kind.{Kind}
 use Rattle.paper.specs.declared.NotListed.{NotListed}

@@ -1,44 +1,52 @@
-// The paper, docs/PROTOCOL.md, as types and numbers. The definitions over them are in specs/, which is the text to believe; of code
-// there is no more here than the numbers of its tables.
+//! The paper, docs/PROTOCOL.md, as types and numbers. The definitions over them are in specs/, which is the text to believe; of code
+//! there is no more here than the numbers of its tables.
 #![tactic(auto)]
 
 ghost use Rattle.std.specs.Prelude.{◌≡◌};
 ghost use Rattle.paper.specs.Numbers.{refusal_number, kind_number, RefusalOf, KindOf};
 
-// A path's siblings at most (§5.2.1); its frame before them; the longest frame and line (§4.1.3); the space that every reply fits
-// (§5.3.3); the counter's top (§6.2.7). The definitions' names for them are `most_siblings`, `before_siblings`, `longest_frame`, `longest_line`,
-// `reply_room` and `top`; contracts hold the code to those.
+// The definitions' names for these are `most_siblings`, `before_siblings`, `longest_frame`, `longest_line`, `reply_room` and `top`;
+// contracts hold the code to those.
+
+/// A path's siblings at most (§5.2.1).
 pub const MOST_SIBLINGS: usize = 64;
 
+/// A path's frame before its siblings.
 pub const BEFORE_SIBLINGS: usize = 74;
 
+/// The longest frame (§4.1.3).
 pub const LONGEST_FRAME: usize = 2122;
 
+/// The longest line, in digits (§4.1.3).
 pub const LONGEST_LINE: usize = 4244;
 
+/// The space that every reply fits (§5.3.3).
 pub const REPLY_ROOM: usize = 195;
 
-pub const TOP: u64 = 18446744073709551615;
+/// The counter's top (§6.2.7).
+pub const TOP: u64 = u64::MAX;
 
 // A type for each sort of number, so that none is taken for another (§2.2.2, §10.1.2).
-#[derive(Clone, Copy)]
+
+/// An item's number.
+#[derive(Clone, Copy, Debug, PartialEq, Eq, PartialOrd, Ord)]
 pub struct Item(pub u64);
 
-// The change counter is one too: the record that a set leaves has the raised counter as its revision.
-#[derive(Clone, Copy)]
+/// The change counter is one too: the record that a set leaves has the raised counter as its revision.
+#[derive(Clone, Copy, Debug, PartialEq, Eq, PartialOrd, Ord)]
 pub struct Revision(pub u64);
 
-#[derive(Clone, Copy)]
+#[derive(Clone, Copy, Debug, PartialEq, Eq, PartialOrd, Ord)]
 pub struct Kilograms(pub u64);
 
-#[derive(Clone, Copy)]
+#[derive(Clone, Copy, Debug, PartialEq, Eq, PartialOrd, Ord)]
 pub struct Millimetres(pub u64);
 
-#[derive(Clone, Copy)]
+#[derive(Clone, Copy, Debug, PartialEq, Eq, PartialOrd, Ord)]
 pub struct Rigging(pub u64);
 
-// §3.4.1: a record.
-#[derive(Clone, Copy)]
+/// §3.4.1: a record.
+#[derive(Clone, Copy, Debug, PartialEq, Eq)]
 pub struct Record {
     pub revision: Revision,
     pub mass: Kilograms,
@@ -46,15 +54,15 @@ pub struct Record {
     pub rigging: Rigging,
 }
 
-// What a set carries of the record that it leaves: all but the revision, which is the raised counter.
-#[derive(Clone, Copy)]
+/// What a set carries of the record that it leaves: all but the revision, which is the raised counter.
+#[derive(Clone, Copy, Debug, PartialEq, Eq)]
 pub struct Values {
     pub mass: Kilograms,
     pub offset: Millimetres,
     pub rigging: Rigging,
 }
 
-// §2.1.1 to §2.1.4: the registers.
+/// §2.1.1 to §2.1.4: the registers.
 #[derive(Clone, Copy)]
 pub struct Registers {
     pub root: [u8; 32],
@@ -63,53 +71,53 @@ pub struct Registers {
     pub opened: bool,
 }
 
-// §5.2.14, §10.1.5: one of three findings, a record with its numbers, listed with none, or a gap.
-#[derive(Clone, Copy)]
+/// §5.2.14, §10.1.5: one of three findings, a record with its numbers, listed with none, or a gap.
+#[derive(Clone, Copy, Debug, PartialEq, Eq)]
 pub enum Finding {
     Recorded(Item, Record),
     Listed(Item),
     Gap(Item, Item),
 }
 
-// The table of refusals (§6.2): why a line is not answered.
+/// The table of refusals (§6.2): why a line is not answered.
 #[derive(Clone, Copy, Debug, PartialEq, Eq)]
 pub enum Refusal {
-    // no line of hexadecimal digits, or too long
+    /// no line of hexadecimal digits, or too long
     Line,
-    // no such kind
+    /// no such kind
     Kind,
-    // not of its kind's length, or no sound path
+    /// not of its kind's length, or no sound path
     Frame,
-    // an item number 0
+    /// an item number 0
     Zero,
-    // a malformed record
+    /// a malformed record
     Malformed,
-    // not in the gap
+    /// not in the gap
     Gap,
-    // the counter is at its top
+    /// the counter is at its top
     Top,
-    // the first memorandum does not match
+    /// the first memorandum does not match
     First,
-    // the second memorandum does not match
+    /// the second memorandum does not match
     Second,
-    // y is not the root
+    /// y is not the root
     Stale,
-    // a clear of an empty record
+    /// a clear of an empty record
     Empty,
-    // a secret of zeros
+    /// a secret of zeros
     Secret,
-    // not open
+    /// not open
     Unopened,
-    // open already
+    /// open already
     Opened,
-    // too little space for the reply
+    /// too little space for the reply
     Room,
-    // a silly mass
+    /// a silly mass
     Mass,
 }
 
 impl Refusal {
-    // Its number in the table.
+    /// Its number in the table.
     pub fn number(self) -> u8
         ensures { result ≡ refusal_number self }
     {
@@ -134,7 +142,7 @@ impl Refusal {
     }
 }
 
-// A number that is in none of the two tables' rows.
+/// A number that is in none of the two tables' rows.
 #[derive(Clone, Copy, Debug, PartialEq, Eq)]
 pub struct NotListed(pub u8);
 
@@ -166,7 +174,7 @@ impl TryFrom<u8> for Refusal {
     }
 }
 
-// The table of kinds (§5.1): what a frame asks.
+/// The table of kinds (§5.1): what a frame asks.
 #[derive(Clone, Copy, Debug, PartialEq, Eq)]
 pub enum Kind {
     Path,
@@ -188,7 +196,7 @@ pub enum Kind {
 }
 
 impl Kind {
-    // Its number in the table, the first byte of its frames.
+    /// Its number in the table, the first byte of its frames.
     pub fn number(self) -> u8
         ensures { result ≡ kind_number self }
     {
