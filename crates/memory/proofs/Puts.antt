@@ -14,9 +14,9 @@ use Rattle.seqs.specs.Over.{put_length}
 use Rattle.slots.specs.Nodes.{leaf_put}
 use Rattle.slots.proofs.Turns.{leaf_length}
 use Rattle.rows.specs.declared.Row.{Row}
-use Rattle.rows.specs.Rows.{row_at, row_numbers, numbers_in, row_put}
+use Rattle.rows.specs.Rows.{row_at, row_numbers, row_digest, numbers_in, row_put}
 use Rattle.rows.specs.Pairs.{row_of}
-use Rattle.memory.specs.Memory.{row_digest, leaves_put, digests_put, has_room}
+use Rattle.memory.specs.Memory.{leaves_put, digests_put, has_room}
 
 -- ── a turn, and the end ──
 
