@@ -4,12 +4,13 @@
 ghost use Rattle.std.specs.Prelude.{◌≡◌, ◌==◌, ◌+◌, ◌*◌, ◌≤◌, length, position};
 ghost use Rattle.decimals.specs.Decimals.{decimal_in};
 ghost use Rattle.words.specs.Reading.{word_in, by_name, by_four, setting_of};
-ghost use Rattle.words.specs.Telling.{told, told_text, word_name, numbered};
+ghost use Rattle.words.specs.Telling.{told, told_text, numbered};
+ghost use Rattle.wishes.specs.Words.{word_name};
 ghost use Rattle.words.specs.Building.{FirstWord};
 
 use buffers::Buffer;
 use paper::{Finding, Item, Kilograms, Millimetres, Revision, Rigging, Values};
-use wishes::Wish;
+use wishes::{Refused, Wish};
 
 /// What a line says where no reply is awaited: a wish, or the counter that the module gave last.
 #[derive(Clone, Copy)]
@@ -141,16 +142,9 @@ fn word_name(word: u8) -> &'static [u8]
     ensures value { result.now ≡ word_name word }
     ensures short { length result.now ≤ 8 }
 {
-    match word {
-        1 => b"zero",
-        2 => b"mass",
-        3 => b"listed",
-        4 => b"unlisted",
-        5 => b"recorded",
-        6 => b"empty",
-        7 => b"full",
-        8 => b"top",
-        _ => b"",
+    match Refused::try_from(word) {
+        Ok(refused) => refused.name(),
+        Err(_) => b"",
     }
 }
 
