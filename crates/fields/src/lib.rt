@@ -13,6 +13,7 @@ pub fn join8(a: u8, b: u8, c: u8, d: u8, e: u8, f: u8, g: u8, h: u8) -> u64
     u64::from_be_bytes([a, b, c, d, e, f, g, h])
 }
 
+/// Byte i, or 0 where there is none.
 pub fn byte_at(s: &[u8], i: usize) -> u8
     ensures { result ≡ get_or s.now i 0 }
 {
@@ -77,6 +78,7 @@ pub fn same_digest(a: [u8; 32], b: [u8; 32]) -> bool
     differ == 0
 }
 
+/// Whether every byte is 0.
 pub fn is_zero(a: [u8; 32]) -> bool
     ensures { result ≡ all_zero a }
 {

@@ -5,6 +5,7 @@ ghost use Rattle.std.specs.Prelude.{◌≡◌, ◌++◌, ◌+◌, ◌*◌, ◌/�
 ghost use Rattle.hexadecimal.specs.Hex.{is_digit, value_of, digit_of, all_digits, bytes_of, line_of};
 ghost use Rattle.seqs.specs.Over.{written};
 
+/// Whether a byte is one of the digits 0 to 9 and a to f.
 #[tactic(auto, unfolding(crate::specs::Hex::is_digit))]
 pub fn is_digit(c: u8) -> bool
     ensures { result ≡ is_digit c }
@@ -12,7 +13,8 @@ pub fn is_digit(c: u8) -> bool
     matches!(c, b'0'..=b'9' | b'a'..=b'f')
 }
 
-/// 0 for a byte that is no digit.
+/// What a digit stands for, and 0 for a byte that is no digit. A number and no Option: `value_of` gives every byte one, and `bytes_of`,
+/// which lines and frames go by, reads any bytes so.
 #[tactic(auto, unfolding(crate::specs::Hex::value_of, crate::specs::Hex::is_digit))]
 pub fn value(c: u8) -> u8
     ensures { result ≡ value_of c }
@@ -46,6 +48,7 @@ pub fn low_digit(b: u8) -> u8
     digit(b % 16)
 }
 
+/// Whether every byte of a line is a digit.
 pub fn all_digits(line: &[u8]) -> bool
     ensures { result ≡ all_digits line.now }
 {

@@ -1,4 +1,5 @@
-//! The functions on 32-bit words of FIPS 180-4, section 4.1.2.
+//! The functions on 32-bit words of FIPS 180-4, section 4.1.2. The four sigmas stay four, though two and two differ in numbers only: the
+//! standard has them by name, each with its numbers, and so has specs/Words.antt.
 ghost use Rattle.std.specs.Prelude.{◌≡◌};
 ghost use Rattle.sha256.specs.Words.{Ch, Maj, big_sigma0, big_sigma1, small_sigma0, small_sigma1};
 

@@ -8,6 +8,8 @@ ghost use Rattle.sha256.specs.Hash.{sha256};
 ghost use Rattle.paper.specs.Strings.{up};
 ghost use Rattle.slots.specs.Nodes.{node_at, sibling_at, put_node, rehashed, leaf_put, climbed, siblings_put};
 
+// The nodes stay bytes, without a type of their own: docs/TRACE.md names the functions, and they answer for every slice.
+
 // The definitions' names for these are `slot_count` and `level_count`; the contracts hold the code to those.
 
 /// How many slots there are.
@@ -34,6 +36,7 @@ pub fn node_at(nodes: &[u8], v: usize) -> [u8; 32]
     fields::digest_at(nodes, 32 * v)
 }
 
+/// Puts node v's digest, where it fits.
 #[tactic(auto, unfolding(crate::specs::Nodes::put_node), using(crate::proofs::Turns::past_put))]
 fn put_node(nodes: &mut [u8], v: usize, digest: [u8; 32])
     ensures { nodes.new ≡ put_node nodes.old v digest }
