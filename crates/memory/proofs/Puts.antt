@@ -53,18 +53,3 @@ leaves_length (r ∷ l) i m = leaves_length l (i + 1) (row_put m i r) ∙ row_le
 pub digests_length : (D : List ℕ → Dig) (rs : List Row) (i : ℕ) (m : List ℕ) → length (digests_put D rs i m) ≡ length m
 digests_length D [] i m = refl
 digests_length D (r ∷ l) i m = digests_length D l (i + 1) (leaf_put D m i (row_digest D r)) ∙ leaf_length D m i (row_digest D r)
-
--- ── room ──
-
-module _ (leaves nodes : List ℕ) where
-  pub room_there : 6144 ≤ length leaves → length nodes ≡ 65536 → has_room leaves nodes ≡ true
-  unfolding has_room
-  room_there h e = rw (le-leb 6144 (length leaves) h, eq-eqb (length nodes) 65536 e)
-
-  pub few_numbers : length leaves < 6144 → has_room leaves nodes ≡ false
-  unfolding has_room
-  few_numbers h = rw (lt-leb 6144 (length leaves) h)
-
-  pub other_nodes : length nodes ≢ 65536 → has_room leaves nodes ≡ false
-  unfolding has_room
-  other_nodes n = rw (ne_eqb (length nodes) 65536 n, both_no)
