@@ -1,22 +1,18 @@
 -- Leaves put one after the other, turn by turn; the line of a leaf of a text that can be read; and lengths that stay.
 use mathlib.Core.Path.{◌≡◌, refl, ap, ◌∙◌}
-use mathlib.Core.Bool.{true, false}
 use mathlib.Core.List.{List, [], ◌∷◌}
-use mathlib.Core.Logic.{◌≢◌}
 use Prim.Native.Nat.{ℕ, suc, ◌+◌, ◌*◌, ◌<◌, ◌≤◌}
 use native.Mathlib.Omega.{arith}
-use borrow.Author.Tests.{le-leb, lt-leb, eq-eqb, ne_eqb}
 use lib.ListN.{length, drop, drop_of_length-le}
 use lib.Seq.{drop-cons}
 use Rattle.paper.specs.Strings.{Dig}
-use Rattle.seqs.specs.Choose.{both_no}
 use Rattle.seqs.specs.Over.{put_length}
 use Rattle.slots.specs.Nodes.{leaf_put}
 use Rattle.slots.proofs.Turns.{leaf_length}
 use Rattle.rows.specs.declared.Row.{Row}
 use Rattle.rows.specs.Rows.{row_at, row_numbers, row_digest, numbers_in, row_put}
 use Rattle.rows.specs.Pairs.{row_of}
-use Rattle.memory.specs.Memory.{leaves_put, digests_put, has_room}
+use Rattle.memory.specs.Memory.{leaves_put, digests_put}
 
 -- ── a turn, and the end ──
 
