@@ -1,6 +1,6 @@
 -- Fields one behind the other, however they were put together.
 use mathlib.Core.Path.{◌≡◌}
-use mathlib.Core.List.{List, [], ◌++◌, append_assoc, append-nil}
+use mathlib.Core.List.{List, [], ◌++◌, append_assoc}
 use Prim.Native.Nat.{ℕ}
 
 -- put one by one behind what stands there: a tag, or nothing
