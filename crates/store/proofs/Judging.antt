@@ -2,7 +2,7 @@
 use mathlib.Core.Path.{◌≡◌, refl, sym, ap, ◌∙◌}
 use mathlib.Core.Bool.{Bool, true, false, true≢false}
 use mathlib.Core.List.{List, [], ◌∷◌, ◌++◌, append_assoc}
-use Prim.Native.Nat.{ℕ, zero, suc, ◌+◌, ◌-◌, ◌*◌, ◌<◌, ◌≤◌, ◌^◌}
+use Prim.Native.Nat.{ℕ, zero, suc, ◌+◌, ◌*◌, ◌<◌, ◌≤◌, ◌^◌}
 use native.Mathlib.Nat.{not-suc-le-zero, le_of_suc-le-suc}
 use native.Mathlib.Omega.{arith}
 use borrow.Author.Tests.{lt-ltb, le-ltb, ltb-false}
@@ -27,7 +27,6 @@ use Rattle.store.specs.Texts.{text_read, lines_in, text_of}
 use Rattle.store.specs.RoundTrip.{Storable}
 use Rattle.store.specs.Judging.{judged_by, ring_judged, judged, broken_by}
 use Rattle.store.proofs.RoundTrip.{bytes_long, round_trips}
-use Rattle.store.proofs.Texts.{rest_all}
 use Rattle.store.proofs.Saved.{line_long}
 
 -- ── a line's numbers ──
@@ -100,10 +99,6 @@ module _ (t : List ℕ) (whole : (text_read t).whole ≡ true) where
     next_there =
         ap (λ (l : List ℕ). number_at (bytes_of l) 0) (sym (drop-drop 16 (97 * i) t) ∙ ap (drop 16) from_line.1)
         ∙ next_front _ from_line.0 row_storable
-
--- the number whose digits stand from a place on
-pub number_from : (t : List ℕ) (at : ℕ) → number_at (bytes_of (take (length t - at) (drop at t))) 0 ≡ number_at (bytes_of (drop at t)) 0
-number_from t at = ap (λ (l : List ℕ). number_at (bytes_of l) 0) (rest_all t at)
 
 -- ── loops over the lines ──
 

@@ -6,10 +6,10 @@ use Rattle.std.specs.Prelude.{Option, Some, None, Ok, Err, is_some}
 use Prim.Native.Nat.{ℕ, ◌+◌, ◌-◌, ◌<◌, ◌≤◌}
 use native.Mathlib.Nat.{not-suc-le-zero}
 use native.Mathlib.Omega.{arith}
-use borrow.Author.Tests.{eq-eqb, ne_eqb, eqb-true, le-leb, lt-leb, leb-true}
+use borrow.Author.Tests.{ne_eqb, eqb-true, le-leb, lt-leb, leb-true}
 use lib.Dec.{eqb, leb}
 use lib.ListN.{length, get_or, take, drop, length-append, length-drop, take-append-drop, drop_of_length-le}
-use lib.Seq.{take_at, take_all, get_or_at, drop-cons, drop-drop, get_or-drop}
+use lib.Seq.{take_at, take_all, get_or_at, drop-cons, drop-drop}
 use Rattle.seqs.specs.Choose.{pick, both, both_true, Every}
 use Rattle.hexadecimal.specs.Hex.{is_digit, all_digits, bytes_of}
 use Rattle.hexadecimal.proofs.Laws.{digit_range}
@@ -172,16 +172,6 @@ module _ (t : List ℕ) (at : ℕ) where
   pub front_short : length t < at + 97 → is_some (front_line (drop at t)) ≡ false
   unfolding front_line
   front_short h = rw (lt-leb 97 (length (drop at t)) (simp length-drop (omega arith)))
-
-  pub front_other : at + 97 ≤ length t → (get_or t (at + 96) 0 ≡ 0x0a → ⊥) → is_some (front_line (drop at t)) ≡ false
-  unfolding front_line
-  front_other h n =
-      rw (le-leb 97 (length (drop at t)) (simp length-drop (omega arith)), get_or-drop at t 96 0, ne_eqb (get_or t (at + 96) 0) 0x0a n)
-
-  pub front_here : at + 97 ≤ length t → get_or t (at + 96) 0 ≡ 0x0a → front_line (drop at t) ≡ line_read (take 96 (drop at t))
-  unfolding front_line
-  front_here h e =
-      rw (le-leb 97 (length (drop at t)) (simp length-drop (omega arith)), get_or-drop at t 96 0, eq-eqb (get_or t (at + 96) 0) 0x0a e)
 
 -- what stands from a place on is all of it
 pub rest_all : (t : List ℕ) (at : ℕ) → take (length t - at) (drop at t) ≡ drop at t

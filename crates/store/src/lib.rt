@@ -2,7 +2,7 @@
 //! whole text judged, and written.
 #![tactic(auto)]
 
-ghost use Rattle.std.specs.Prelude.{◌≡◌, true, ◌*◌, ◌<◌, leb, length, drop, is_some};
+ghost use Rattle.std.specs.Prelude.{◌≡◌, true, ◌+◌, ◌*◌, ◌<◌, ◌≤◌, leb, length, drop, is_some};
 ghost use Rattle.seqs.specs.Bytes.{number_at};
 ghost use Rattle.seqs.specs.Over.{written};
 ghost use Rattle.hexadecimal.specs.Hex.{bytes_of};
@@ -122,28 +122,10 @@ pub fn save(leaves: &[u64], k: usize, space: &mut [u8]) -> bool
         return false;
     }
     for i in 0..k {
-        let mut line = [0u8; LINE];
-        write_line(rows::row_at(leaves, i), &mut line);
-        fields::put(space, LINE * i, &line);
+        let at = LINE * i;
+        write_line(rows::row_at(leaves, i), &mut space[at..at + LINE]);
     }
     true
-}
-
-/// The number of the first 16 digits.
-#[tactic(auto, unfolding(seqs::specs::Bytes::number_at))]
-fn number_of(digits: &[u8]) -> u64
-    ensures { result ≡ number_at (bytes_of digits.now) 0 }
-{
-    fields::join8(
-        hexadecimal::byte_at(digits, 0),
-        hexadecimal::byte_at(digits, 1),
-        hexadecimal::byte_at(digits, 2),
-        hexadecimal::byte_at(digits, 3),
-        hexadecimal::byte_at(digits, 4),
-        hexadecimal::byte_at(digits, 5),
-        hexadecimal::byte_at(digits, 6),
-        hexadecimal::byte_at(digits, 7),
-    )
 }
 
 /// Whether line i, of an item that leads to the next, breaks with line j of item q; with itself it breaks where the next item does
@@ -169,12 +151,22 @@ struct Lines<'a> {
 }
 
 impl<'a> Lines<'a> {
+    /// The number whose 16 digits stand at a place.
+    fn number(&self, at: usize) -> u64
+        requires { at + 16 ≤ length self.now.text.now }
+        ensures { result ≡ number_at (bytes_of (drop at self.now.text.now)) 0 }
+    {
+        let mut bytes = [0u8; 8];
+        hexadecimal::read(&self.text[at..at + 16], &mut bytes);
+        fields::number_at(&bytes, 0)
+    }
+
     /// The item of line i.
     fn item(&self, i: usize) -> Item
         requires { i < self.now.count }
         ensures { result ≡ (row_of (text_read self.now.text.now).rows i).item }
     {
-        Item(number_of(&self.text[LINE * i..]))
+        Item(self.number(LINE * i))
     }
 
     /// The item that line i leads to.
@@ -182,7 +174,7 @@ impl<'a> Lines<'a> {
         requires { i < self.now.count }
         ensures { result ≡ (row_of (text_read self.now.text.now).rows i).next }
     {
-        Item(number_of(&self.text[LINE * i + 16..]))
+        Item(self.number(LINE * i + 16))
     }
 
     /// Whether one of the lines is of item a.
