@@ -45,7 +45,10 @@ fn fold(x: [u8; 32], siblings: &[[u8; 32]], sides: u64) -> Digest
     let mut bits = sides;
     for &sibling in siblings {
         let node = level(up.bytes, sibling, bits % 2);
-        up = Digest { blocks: up.blocks + node.blocks, ..node };
+        up = Digest {
+            blocks: up.blocks + node.blocks,
+            ..node
+        };
         bits /= 2;
     }
     up
@@ -100,12 +103,7 @@ pub fn path(
 }
 
 /// The row of 02: m is U1(x,y,x,y); answers V1(x,y).
-fn witness_row(
-    desk: &mut Desk,
-    x: [u8; 32],
-    y: [u8; 32],
-    m: [u8; 32],
-) -> Result<[u8; 32], Refusal>
+fn witness_row(desk: &mut Desk, x: [u8; 32], y: [u8; 32], m: [u8; 32]) -> Result<[u8; 32], Refusal>
     requires { desk.old.blocks ≡ 0 }
     ensures { outcome_at 2 result desk.new ≡ row desk.old.registers 2 (Q.witness x y m) }
 {

@@ -1,7 +1,7 @@
 -- After some levels the whole fold is what the siblings left give from here, and the count is what was worked so far.
-use Rattle.std.proofs.Common.{◌≡◌, ℕ, ◌+◌, ◌*◌, ◌≤◌, List, drop}
+use Rattle.std.proofs.Common.{◌≡◌, ◌+◌, ◌*◌, ◌≤◌, drop}
 use Rattle.sha256.specs.Hash.{sha256}
-use Rattle.paper.specs.Strings.{Dig, cost, fold_up, fold_forms}
+use Rattle.paper.specs.Strings.{cost, fold_up, fold_forms}
 use Rattle.tree_kinds.proofs.fold.Given as goal
 
 abbrev pub invariant-loop-sibling : goal.invariant-loop-sibling

@@ -1,5 +1,5 @@
 -- More siblings than there are are all of them.
-use Rattle.std.proofs.Common.{◌≡◌, ◌≤◌, List, length, take, ap, subst, ◌∙◌}
+use Rattle.std.proofs.Common.{◌≤◌, List, length, take, ap, subst, ◌∙◌}
 use Rattle.std.specs.Prelude.{OnOk}
 use Rattle.sha256.specs.Hash.{sha256}
 use Rattle.paper.specs.Strings.{Dig}
