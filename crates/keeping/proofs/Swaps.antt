@@ -28,14 +28,14 @@ use Rattle.groves.specs.Grove.{slots_of, tree_of}
 use Rattle.groves.specs.SlotLines.{leaf_at, leaves_swapped, swap_at}
 use Rattle.groves.proofs.SlotLines.{swap_slots}
 use Rattle.rows.specs.declared.Row.{Row}
-use Rattle.rows.specs.Rows.{row_at, rows_from, row_put, of_item}
+use Rattle.rows.specs.Rows.{row_at, rows_from, row_put, of_item, row_digest}
 use Rattle.rows.proofs.Puts.{row_there, row_else}
 use Rattle.ringed.specs.Ringed.{leaf_by, leaves_by}
 use Rattle.edits.specs.Changes.{two_places}
 use Rattle.wishes.specs.declared.Wish.TheVariants.{Remove}
 use Rattle.wishes.specs.Words.{held_of, own_place}
 use Rattle.plans.specs.declared.Plan.{Plan}
-use Rattle.plans.specs.Plans.{row_digest, plain_plan, swapping, dropping}
+use Rattle.plans.specs.Plans.{plain_plan, swapping, dropping}
 use Rattle.asking.specs.declared.Talk.{Talk}
 use Rattle.asking.specs.Saying.{start_of}
 use Rattle.hearing.specs.declared.End.TheVariants.{GoesOn}
