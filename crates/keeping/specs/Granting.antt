@@ -1,7 +1,6 @@
 -- What a wish comes to that the tablet does not refuse: its lines, each answered by the module and its reply heard, are honest lines of
 -- `runs` that do just the wish, and afterwards tablet and module agree again.
-use Rattle.std.specs.Prelude.{◌≡◌, true, false, Result, Ok, IsOk, List, [], ℕ, ◌≤◌, ◌<◌, eqb, length}
-use Rattle.seqs.specs.Choose.{pick}
+use Rattle.std.specs.Prelude.{◌≡◌, true, false, Result, Ok, IsOk, List, [], ℕ, ◌≤◌, ◌<◌, length}
 use Rattle.seqs.specs.Bytes.{Bytes}
 use Rattle.sha256.specs.Hash.{sha256}
 use Rattle.paper.specs.declared.Registers.{Registers}
@@ -21,7 +20,9 @@ use Rattle.wishes.specs.declared.Wish.TheVariants.{Insert, Remove, Set, Clear, A
 use Rattle.wishes.specs.declared.Refused.{Refused}
 use Rattle.plans.specs.declared.Plan.{Plan}
 use Rattle.plans.specs.Plans.{begun_for}
+use Rattle.hearing.specs.declared.End.TheVariants.{Done}
 use Rattle.hearing.specs.Awaiting.{as_awaited, refusal_in}
+use Rattle.hearing.specs.Hearing.{otherwise}
 use Rattle.holding.specs.Holding.{Holds}
 use Rattle.keeping.specs.Talking.{Tablet, Underway, set_out, hears, Conversed, converse}
 use Rattle.keeping.specs.Agreeing.{Agrees}
@@ -70,7 +71,7 @@ module _ (D : List ℕ → Dig) where
   -- a conversation that began at the world w grants the wish v: it has ended well, the lines sent led to its world and were honest, list
   -- and registers are those wanted, the root being the one that memory then has, memory holds that list, and a question is answered truly
   pub record Grants (w : World) (v : Wish) (c : Conversed D) : Type 0 where
-    pub ended : c.wish.end ≡ 1
+    pub ended : c.wish.end ≡ Done
     pub led : fed D w c.sent ≡ c.world
     pub honest : HonestTurns D w c.sent
     pub items : c.world.items ≡ items_after w.registers w.items (wish_of v)
@@ -113,11 +114,11 @@ module _ (D : List ℕ → Dig) where
         → IsOk (begins x v)
 
   -- Any line that is not the reply awaited, whatever its bytes, ends the wish and changes nothing of the tablet: told as the module's
-  -- refusal (2) where it is one, and else as something that the module should not have said (3).
+  -- refusal where it is one, and else as something that the module should not have said.
   abbrev pub OtherRepliesTold : Type 0
   OtherRepliesTold =
       (u : Underway) (l : List ℕ) → as_awaited u.talk l ≡ false
-      → ((hears D u l).tablet ≡ u.tablet) × ((hears D u l).end ≡ pick (eqb (refusal_in l) 0) 3 2)
+      → ((hears D u l).tablet ≡ u.tablet) × ((hears D u l).end ≡ otherwise (refusal_in l))
 
   pub record KeepsHonestly : Type 0 where
     pub anywhere : StartTogether
