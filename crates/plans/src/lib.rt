@@ -55,19 +55,11 @@ pub struct Plan {
 
 // ── small values ──
 
-/// A record without numbers.
-const EMPTY: Record = Record {
-    revision: Revision(0),
-    mass: Kilograms(0),
-    offset: Millimetres(0),
-    rigging: Rigging(0),
-};
-
 /// A leaf of nothing.
 const NO_ROW: Row = Row {
     item: Item(0),
     next: Item(0),
-    entry: EMPTY,
+    entry: records::EMPTY,
 };
 
 /// No values.
@@ -216,7 +208,7 @@ impl<'a> Memory<'a> {
         let left = Row {
             item: a,
             next: a,
-            entry: EMPTY,
+            entry: records::EMPTY,
         };
         let change = edits::one_place(self.nodes, 0, row_digest(left));
         let after = After {
@@ -237,7 +229,7 @@ impl<'a> Memory<'a> {
         let right = Row {
             item: a,
             next: here.next,
-            entry: EMPTY,
+            entry: records::EMPTY,
         };
         let x = row_digest(left);
         let w = row_digest(right);
@@ -328,7 +320,7 @@ impl<'a> Memory<'a> {
             Wish::Insert(a) => self.insert_more(a),
             Wish::Remove(a) => self.remove(a),
             Wish::Set(a, v) => self.rewrite(Script::Setting, a, v, record_after(self.counter, v)),
-            Wish::Clear(a) => self.rewrite(Script::Clearing, a, NO_VALUES, EMPTY),
+            Wish::Clear(a) => self.rewrite(Script::Clearing, a, NO_VALUES, records::EMPTY),
             Wish::Ask(q) => self.ask(q),
         }
     }
