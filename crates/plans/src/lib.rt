@@ -115,6 +115,8 @@ fn plain(script: Script, item: Item, here: Row, change: Change, after: After) ->
 
 // ── plans ──
 
+// `begin` and `drop_plan` take the parts of `Memory` one by one: docs/TRACE.md names them, and they answer for any count.
+
 /// Memory as a wish finds it: its leaves, and how many of them it holds, its nodes, and the counter that the module gave last.
 #[derive(Clone, Copy)]
 struct Memory<'a> {
