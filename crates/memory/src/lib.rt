@@ -19,6 +19,8 @@ ghost use Rattle.memory.specs.Memory.{
 use rows::Row;
 use store::Fault;
 
+// Leaves and nodes stay two slices: docs/TRACE.md names `put` and `load`, and they answer for slices of any length.
+
 /// How many numbers there must be for the leaves. The definitions work it out of `slot_count`; the contracts hold the code to that.
 pub const LEAVES: usize = 6144;
 

@@ -55,19 +55,11 @@ pub struct Plan {
 
 // ── small values ──
 
-/// A record without numbers.
-const EMPTY: Record = Record {
-    revision: Revision(0),
-    mass: Kilograms(0),
-    offset: Millimetres(0),
-    rigging: Rigging(0),
-};
-
 /// A leaf of nothing.
 const NO_ROW: Row = Row {
     item: Item(0),
     next: Item(0),
-    entry: EMPTY,
+    entry: records::EMPTY,
 };
 
 /// No values.
@@ -122,6 +114,8 @@ fn plain(script: Script, item: Item, here: Row, change: Change, after: After) ->
 }
 
 // ── plans ──
+
+// `begin` and `drop_plan` take the parts of `Memory` one by one: docs/TRACE.md names them, and they answer for any count.
 
 /// Memory as a wish finds it: its leaves, and how many of them it holds, its nodes, and the counter that the module gave last.
 #[derive(Clone, Copy)]
@@ -216,7 +210,7 @@ impl<'a> Memory<'a> {
         let left = Row {
             item: a,
             next: a,
-            entry: EMPTY,
+            entry: records::EMPTY,
         };
         let change = edits::one_place(self.nodes, 0, row_digest(left));
         let after = After {
@@ -237,7 +231,7 @@ impl<'a> Memory<'a> {
         let right = Row {
             item: a,
             next: here.next,
-            entry: EMPTY,
+            entry: records::EMPTY,
         };
         let x = row_digest(left);
         let w = row_digest(right);
@@ -328,7 +322,7 @@ impl<'a> Memory<'a> {
             Wish::Insert(a) => self.insert_more(a),
             Wish::Remove(a) => self.remove(a),
             Wish::Set(a, v) => self.rewrite(Script::Setting, a, v, record_after(self.counter, v)),
-            Wish::Clear(a) => self.rewrite(Script::Clearing, a, NO_VALUES, EMPTY),
+            Wish::Clear(a) => self.rewrite(Script::Clearing, a, NO_VALUES, records::EMPTY),
             Wish::Ask(q) => self.ask(q),
         }
     }

@@ -6,7 +6,15 @@ ghost use Rattle.std.specs.Prelude.{◌≡◌};
 ghost use Rattle.paper.specs.Answers.{finding_of};
 ghost use Rattle.paper.specs.Strings as S;
 
-use paper::{Finding, Item, Kilograms, Record, Revision};
+use paper::{Finding, Item, Kilograms, Millimetres, Record, Revision, Rigging};
+
+/// The record that stands for none. The definitions' name for it is `empty_record`.
+pub const EMPTY: Record = Record {
+    revision: Revision(0),
+    mass: Kilograms(0),
+    offset: Millimetres(0),
+    rigging: Rigging(0),
+};
 
 /// Whether a record stands for none.
 pub fn is_blank(r: Record) -> bool

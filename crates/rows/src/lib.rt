@@ -7,6 +7,8 @@ ghost use Rattle.rows.specs.Rows.{row_numbers, numbers_in, row_at, row_put, pass
 
 use paper::{Item, Kilograms, Millimetres, Record, Revision, Rigging};
 
+// Leaves stay numbers in lent memory: docs/TRACE.md names `row_at`, `put_row` and `find`, and they answer for every slice of numbers.
+
 /// How many numbers a leaf takes. The definitions' name for it is `row_numbers`; the contracts hold the code to that.
 pub const NUMBERS: usize = 6;
 
@@ -36,6 +38,7 @@ impl Row {
 
 /// What is sought: the leaf of an item, the one that leads to it, the one whose gap holds it, or the one that answers a question on
 /// it, its own or the one whose gap holds it.
+// A value and no closure: docs/TRACE.md names `find`, and its definition, `passing`, goes by the value.
 #[derive(Clone, Copy, Debug, PartialEq, Eq)]
 pub enum Search {
     Own,

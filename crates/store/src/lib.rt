@@ -31,13 +31,14 @@ pub enum Fault {
 }
 
 /// A leaf's numbers, one behind the other.
+#[tactic(auto, unfolding(crate::specs::Lines::row_bytes, seqs::specs::Bytes::be64))]
 fn row_bytes(r: Row) -> [u8; 48]
     ensures { result ≡ row_bytes r }
 {
-    let mut s = [0u8; 48];
-    fields::put(&mut s, 0, &fields::spelled(r.item.0));
-    fields::put(&mut s, 8, &fields::spelled(r.next.0));
-    fields::put(&mut s, 16, &records::record_bytes(r.entry));
+    let mut s = [0; 48];
+    s[0..8].copy_from_slice(&r.item.0.to_be_bytes());
+    s[8..16].copy_from_slice(&r.next.0.to_be_bytes());
+    s[16..48].copy_from_slice(&records::record_bytes(r.entry));
     s
 }
 

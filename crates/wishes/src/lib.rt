@@ -125,6 +125,7 @@ fn listed(leaves: &[u64], k: usize, a: Item) -> Result<Row, Refused>
 
 /// Whether the tablet refuses a wish, in a memory that holds so many leaves, with the counter that the module gave last: by the
 /// first word whose test is true.
+// Count, counter and leaves stay apart: docs/TRACE.md names the function, and it answers for any three of them.
 #[tactic(auto, unfolding(crate::specs::Words::word_for))]
 pub fn word(wish: Wish, count: usize, counter: Revision, leaves: &[u64]) -> Result<(), Refused>
     ensures { result ≡ unless (word_for leaves.now (held_of count) counter.0 wish) tt }

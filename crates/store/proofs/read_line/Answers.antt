@@ -29,10 +29,12 @@ read_by l b r t long digits eb er h =
 
 pub returns-then-may_stand : goal.returns-then-may_stand
 returns-then-may_stand c =
-    read_by _ _ _ true c.if-line-ne-DIGITS.false (sym c.all_digits.ensures ∙ c.if-not-all_digits.false) c.read.ensures.space_after
+    let long : length c.args.line.now ≡ 96 = omega arith in
+    read_by _ _ _ true long (sym c.all_digits.ensures ∙ c.if-not-all_digits.false) c.read.ensures.space_after
     c.row_in-r.ensures (sym c.may_stand.ensures ∙ c.if-may_stand.true)
 
 pub returns-else-may_stand : goal.returns-else-may_stand
 returns-else-may_stand c =
-    read_by _ _ _ false c.if-line-ne-DIGITS.false (sym c.all_digits.ensures ∙ c.if-not-all_digits.false) c.read.ensures.space_after
+    let long : length c.args.line.now ≡ 96 = omega arith in
+    read_by _ _ _ false long (sym c.all_digits.ensures ∙ c.if-not-all_digits.false) c.read.ensures.space_after
     c.row_in-r.ensures (sym c.may_stand.ensures ∙ c.if-may_stand.false)
