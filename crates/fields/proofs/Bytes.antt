@@ -1,12 +1,12 @@
 -- Bytes that are there and zeros behind them; eight of them as a number; tests of every byte.
-use Rattle.std.proofs.Common.{◌≡◌, ℕ, ◌+◌, ◌-◌, ◌<◌, Bool, ◌&&◌, true, false, List, [], ◌∷◌, ◌++◌, length, get_or, take, drop, replicate, min, refl, sym, ap, ◌∙◌, append-nil, add-zero, length-drop, arith}
+use Rattle.std.proofs.Common.{◌≡◌, ℕ, ◌+◌, ◌-◌, ◌<◌, List, [], ◌∷◌, ◌++◌, length, get_or, take, drop, replicate, min, refl, sym, ap, ◌∙◌, append-nil, add-zero, length-drop, arith}
 use Rattle.std.proofs.Math.Decide.{dec_le}
 use Rattle.std.proofs.Math.Seq.{take-append-add}
 use Rattle.std.proofs.lemmas.List.{take_all, take-append-le, drop-replicate, take-replicate}
 use Rattle.std.specs.Int.{w64, from_be_bytes}
 use Rattle.std.specs.List.{list_all}
 use lib.Dec.{eqb}
-use Rattle.seqs.specs.Choose.{both}
+use Rattle.seqs.specs.Choose.{both, both_and}
 use Rattle.seqs.specs.Bytes.{number_at, all_zero, padded_byte}
 
 pub front : (l : List ℕ) (n : ℕ) → take (min (length l) n) l ++ drop (min (length l) n) (replicate n 0) ≡ take n (l ++ replicate n 0)
@@ -43,10 +43,6 @@ number_by s l at e =
 -- what is left of a list from a place on, as a range says it
 pub rest : (s : List ℕ) (m : ℕ) → take (length s - m) (drop m s) ≡ drop m s
 rest s m = take_all (length s - m) (drop m s) (omega (arith, length-drop {A = ℕ}))
-
-both_and : (p q : Bool) → (p && q) ≡ both p q
-both_and true q = refl
-both_and false q = refl
 
 pub all_zero_lem : (l : List ℕ) → list_all (λ b. eqb b 0) l ≡ all_zero l
 all_zero_lem [] = refl

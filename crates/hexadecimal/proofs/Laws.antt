@@ -1,6 +1,6 @@
 -- Laws of hexadecimal: digits and values undo each other, and so do lines and bytes.
 use mathlib.Core.Path.{◌≡◌, refl, sym, ap, ◌∙◌}
-use mathlib.Core.Bool.{Bool, true, false, ◌&&◌}
+use mathlib.Core.Bool.{Bool, true, false}
 use mathlib.Core.List.{List, [], ◌∷◌, ◌++◌, append-nil}
 use Prim.Native.Nat.{ℕ, zero, suc, ◌+◌, ◌-◌, ◌*◌, ◌/◌, ◌%◌, ◌<◌, ◌≤◌}
 use native.Mathlib.Nat.{not-suc-le-zero, le_of_suc-le-suc}
@@ -10,7 +10,7 @@ use Rattle.std.specs.List.{list_all}
 use lib.ListN.{length, length-append, get_or, get_or-eq_default}
 use lib.Seq.{get_or_at}
 use borrow.Author.Tests.{le-leb, lt-leb, leb-true, leb-false}
-use Rattle.seqs.specs.Choose.{both, both_true}
+use Rattle.seqs.specs.Choose.{both, both_true, both_and}
 use Rattle.seqs.specs.Bytes.{Bytes}
 use Rattle.hexadecimal.specs.Hex.{is_digit, value_of, digit_of, all_digits, bytes_of, digits_of, line_of}
 
@@ -172,10 +172,6 @@ unfolding line_of
 line_last f = get_or_at (digits_of f) 0x0a [] 0 (2 * length f) (digits_length f)
 
 -- the test of a whole line as the library's
-both_and : (p q : Bool) → (p && q) ≡ both p q
-both_and true q = refl
-both_and false q = refl
-
 pub all_same : (l : List ℕ) → list_all is_digit l ≡ all_digits l
 all_same [] = refl
 all_same (c ∷ l) = both_and (is_digit c) _ ∙ ap (both (is_digit c)) (all_same l)
