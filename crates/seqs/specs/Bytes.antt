@@ -165,13 +165,20 @@ pub same_refl : (l : List ℕ) → same l l ≡ true
 same_refl [] = refl
 same_refl (a ∷ l) = rw (eq-eqb a a refl) (same_refl l)
 
--- one element more of a comparison
+-- one element more of a comparison, of a test for zero
 pub same_step : (l m : List ℕ) (i : ℕ) (t : Bool) → i < length l → i < length m → eqb (get_or l i 0) (get_or m i 0) ≡ t
     → same (drop i l) (drop i m) ≡ both t (same (drop (i + 1) l) (drop (i + 1) m))
 same_step l m i t h k e = rw (drop-cons l i 0 h, drop-cons m i 0 k, add-one, e)
 
 pub same_end : (l m : List ℕ) (i : ℕ) → length l ≤ i → length m ≤ i → same (drop i l) (drop i m) ≡ true
 same_end l m i h k = rw (drop_of_length-le l h, drop_of_length-le m k)
+
+pub zero_step : (l : List ℕ) (i : ℕ) (t : Bool) → i < length l → eqb (get_or l i 0) 0 ≡ t
+    → all_zero (drop i l) ≡ both t (all_zero (drop (i + 1) l))
+zero_step l i t h e = rw (drop-cons l i 0 h, add-one, e)
+
+pub zero_end : (l : List ℕ) (i : ℕ) → length l ≤ i → all_zero (drop i l) ≡ true
+zero_end l i h = rw (drop_of_length-le l h)
 
 -- ── lists of bytes ──
 
