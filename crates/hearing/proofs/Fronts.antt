@@ -1,5 +1,5 @@
 -- The numbers of kinds and refusals; and a reply beside known bytes.
-use Rattle.std.proofs.Common.{◌≡◌, refl, sym, ap, ◌∙◌, ℕ, zero, suc, ◌+◌, ◌-◌, ◌/◌, ◌<◌, ◌≤◌, Bool, true, false, Option, Some, None, Result, Ok, Err, List, length, take, drop, slice_index_or, arith, length-take, nat_eq}
+use Rattle.std.proofs.Common.{◌≡◌, refl, ap, ◌∙◌, ℕ, zero, suc, ◌+◌, ◌<◌, ◌≤◌, Bool, true, false, Some, None, Result, Ok, Err, List, length, take, drop, slice_index_or, arith, length-take, nat_eq}
 use Rattle.std.specs.Result.{result_ok}
 use lib.Seq.{get_or-take}
 use Rattle.seqs.specs.Choose.{both}

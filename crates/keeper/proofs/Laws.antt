@@ -1,5 +1,5 @@
 -- Bytes that stand over the front of a buffer, and the part of it that is written out.
-use Rattle.std.proofs.Common.{◌≡◌, refl, sym, ap, ◌∙◌, ℕ, ◌≤◌, Option, Some, None, Result, Ok, List, length, take, arith, Bool, true, false}
+use Rattle.std.proofs.Common.{◌≡◌, refl, ap, ◌∙◌, ℕ, ◌≤◌, Option, Some, None, Ok, List, length, take, arith, Bool, true, false}
 use borrow.Author.Tests.{leb-true}
 use Rattle.std.specs.Option.{ok_or}
 use lib.Dec.{leb}

@@ -18,7 +18,7 @@ pub enum Shut {
 }
 
 /// Tells why. A line's number counts from 1.
-pub fn tell(rt: &HostRuntime, shut: Shut) {
+pub(crate) fn tell(rt: &HostRuntime, shut: Shut) {
     let _ = match shut {
         Shut::Unreadable => rt.write_all(b"# store cannot be read\n"),
         Shut::Many => rt.write_all(b"# store has more than 1024 lines\n"),

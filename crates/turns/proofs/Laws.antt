@@ -1,5 +1,5 @@
 -- A text as it stands in the output.
-use Rattle.std.proofs.Common.{◌≡◌, refl, ℕ, ◌+◌, ◌≤◌, Bool, true, false, Option, Some, None, List, length, zero-add}
+use Rattle.std.proofs.Common.{◌≡◌, refl, ℕ, Bool, true, false, Some, None, List, length, zero-add}
 use Rattle.std.specs.Bool.{then_some}
 use lib.Dec.{leb}
 use Rattle.seqs.specs.Choose.{pick}

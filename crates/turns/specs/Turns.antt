@@ -1,5 +1,5 @@
 -- The keeper's turns: what a line leads to, and the line that goes out for it.
-use Rattle.std.specs.Prelude.{Bool, true, false, Option, Some, None, Result, Ok, Err, List, ℕ}
+use Rattle.std.specs.Prelude.{Bool, false, Option, Some, None, Result, Ok, Err, List, ℕ}
 use Rattle.paper.specs.declared.Revision.{Revision}
 use Rattle.paper.specs.Strings.{Dig}
 use Rattle.paper.specs.Answers.{finding_of}

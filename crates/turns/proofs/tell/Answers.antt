@@ -1,4 +1,4 @@
-use Rattle.std.proofs.Common.{◌≡◌, refl, ap, ◌∙◌, List, ℕ, length}
+use Rattle.std.proofs.Common.{refl, ap, ◌∙◌, List, ℕ, length}
 use Rattle.seqs.specs.Over.{written}
 use Rattle.asking.specs.Saying.{fitting_length}
 use Rattle.turns.proofs.Laws.{put_front, fits}

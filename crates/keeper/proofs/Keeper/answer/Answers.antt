@@ -1,5 +1,5 @@
 -- What is said is what the line led to.
-use Rattle.std.proofs.Common.{◌≡◌, ◌≤◌, sym, ◌∙◌, ℕ, List, length, arith, rules}
+use Rattle.std.proofs.Common.{◌≡◌, ◌≤◌, sym, ◌∙◌, length, arith, rules}
 use Rattle.sha256.specs.Hash.{sha256}
 use Rattle.turns.specs.Turns.{Said, turn_of}
 use Rattle.keeper.proofs.Laws.{fitting, saved_front, ok_some}

@@ -1,4 +1,4 @@
-use Rattle.std.proofs.Common.{◌≡◌, ℕ, List, arith, length-take}
+use Rattle.std.proofs.Common.{◌≡◌, arith, length-take}
 use Rattle.pieces.specs.declared.Cut.{Cut}
 use Rattle.pieces.proofs.Laws.{Tells, call_tells}
 use Rattle.keeper.proofs.Keeper.serve_piece.Goals as goal

@@ -1,5 +1,5 @@
 -- The bytes written are the text of the leaves.
-use Rattle.std.proofs.Common.{sym, ◌∙◌, ◌*◌, ◌≤◌, length}
+use Rattle.std.proofs.Common.{sym, ◌∙◌, ◌*◌}
 use borrow.Author.Tests.{leb-true}
 use Rattle.rows.specs.Rows.{rows_from}
 use Rattle.store.specs.Texts.{text_of}
