@@ -13,9 +13,7 @@ ghost use Rattle.places.specs.Places.{request_at};
 
 use checks::Desk;
 use digests::Memo;
-use paper::{
-    Item, Kilograms, Kind, Millimetres, Record, Refusal, Registers, Revision, Rigging, TOP, Values,
-};
+use paper::{Item, Kind, Record, Refusal, Registers, Revision, TOP, Values};
 use places::{FIELDS, NUMBER, RECORD, VALUES, digest, item, record_at, values_at};
 use replies::Outcome;
 
@@ -85,14 +83,6 @@ fn next_record(r: Registers, v: Values) -> Record
     }
 }
 
-/// The record that a clear leaves.
-const EMPTY: Record = Record {
-    revision: Revision(0),
-    mass: Kilograms(0),
-    offset: Millimetres(0),
-    rigging: Rigging(0),
-};
-
 /// What a set or a clear does and answers: the root becomes y' and the counter is raised.
 fn raise(desk: &mut Desk, yn: [u8; 32]) -> [u8; 40]
     requires { desk.old.registers.counter.0 + 1 < 2 ^ 64 }
@@ -110,6 +100,9 @@ fn raise(desk: &mut Desk, yn: [u8; 32]) -> [u8; 40]
     fields::put(&mut s, 32, &fields::spelled(counter.0));
     s
 }
+
+// The rows of set and clear stay two functions, though seven of their lines are the same: each reads as its own row of the table,
+// and a function for what they share would take both rows apart.
 
 /// The row of 0c: m is U1 of the leaf whose record changes, and y is the root; the mass v2 is not silly, the record becomes
 /// [c+1, v2, v3, v4], the root y', and the counter is raised.
@@ -188,7 +181,7 @@ fn clear_row(
     desk.check(!records::is_blank(old), Refusal::Empty)?;
     desk.check(desk.registers.counter.0 != TOP, Refusal::Top)?;
     let x = desk.leaf(a, b, old);
-    let xn = desk.leaf(a, b, EMPTY);
+    let xn = desk.leaf(a, b, records::EMPTY);
     desk.fits(Memo::U1(x, y, xn, yn), m, Refusal::First)?;
     desk.is_root(y)?;
     Ok(raise(desk, yn))
