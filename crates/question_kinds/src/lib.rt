@@ -71,6 +71,8 @@ fn ask_row(
     Ok(records::finding(q, a, b, rec))
 }
 
+/// A finding's bytes.
+// Three functions, as the three have arrays of their own lengths; one for all would hand out bytes with their number beside.
 fn recorded(a: Item, rec: Record) -> [u8; 41]
     ensures { result ≡ finding_bytes (Finding.Recorded a rec) }
 {
