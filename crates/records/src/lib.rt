@@ -3,9 +3,10 @@
 #![tactic(auto)]
 
 ghost use Rattle.std.specs.Prelude.{◌≡◌};
+ghost use Rattle.paper.specs.Answers.{finding_of};
 ghost use Rattle.paper.specs.Strings as S;
 
-use paper::{Item, Kilograms, Record};
+use paper::{Finding, Item, Kilograms, Record};
 
 // Whether a record stands for none.
 pub fn is_blank(r: Record) -> bool
@@ -84,4 +85,18 @@ pub fn in_gap(q: Item, a: Item, b: Item) -> bool
         return true;
     }
     q.0 < b.0
+}
+
+/// What is found of the item q where item a's leaf leads to item b and has the record e: a record, an item listed without one, or a gap.
+#[tactic(auto, unfolding(paper::specs::Answers::finding_of))]
+pub fn finding(q: Item, a: Item, b: Item, e: Record) -> Finding
+    ensures { result ≡ finding_of q.0 a.0 b.0 e }
+{
+    if q.0 != a.0 {
+        Finding::Gap(a, b)
+    } else if is_blank(e) {
+        Finding::Listed(a)
+    } else {
+        Finding::Recorded(a, e)
+    }
 }
