@@ -116,6 +116,7 @@ fn bad_line(line: &[u8]) -> bool
 }
 
 /// The eight bytes that a line has for sides, if it is a path.
+// `store` reads eight bytes of digits so, too: one function for both would be a public one of `hexadecimal`, which has no bytes joined to numbers.
 #[tactic(auto, unfolding(seqs::specs::Bytes::number_at))]
 fn sides_of(line: &[u8]) -> u64
     ensures { result ≡ number_at (bytes_of line.now) 66 }

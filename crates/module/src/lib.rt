@@ -17,6 +17,7 @@ use replies::Outcome;
 
 /// What a line came to beside the registers: the number of its refusal, if it is refused, how many bytes of the reply space
 /// are its reply, and the blocks worked.
+// The number stays a byte: it is what `replies::refuse`, which docs/TRACE.md names, was given, and that answers for every byte.
 #[derive(Clone, Copy, Debug, PartialEq, Eq, Default)]
 pub struct Replied {
     pub refused: Option<u8>,
