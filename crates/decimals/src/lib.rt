@@ -56,6 +56,7 @@ pub fn spell(n: u64) -> Numeral
     let mut bytes = [0u8; 20];
     let mut from: usize = 19;
     let mut rest = n;
+    // No plainer as a `for` over the places: the rest ends it, and a `for` would need a value after its last place.
     while 10 <= rest {
         bytes[from] = b'0' + (rest % 10) as u8;
         rest /= 10;

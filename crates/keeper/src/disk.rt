@@ -1,6 +1,6 @@
 //! The store on disk: written whole under another name, synced, and renamed over the old one, so that a crash leaves the old one or
 //! the new one; and the folder synced, so that the new name lasts.
-ghost use Rattle.std.specs.Prelude.{◌≡◌, ◌≤◌, length};
+ghost use Rattle.std.specs.Prelude.{◌≡◌, ◌≤◌, length, IfSome};
 ghost use Rattle.seqs.specs.Choose.{pick};
 ghost use Rattle.seqs.specs.Over.{written};
 ghost use Rattle.store.specs.Texts.{text_of};
@@ -21,25 +21,23 @@ pub struct Names<'a> {
     pub other: &'a [u8],
 }
 
-/// The folder that a name stands in: how many of the name's bytes are the folder's, its last `/` among them; 0 where it has none.
-fn folder_length(path: &[u8]) -> usize
-    ensures { result ≤ length path.now }
+/// The folder that a name stands in, if it has one: how many of the name's bytes are the folder's, its last `/` among them.
+fn folder_length(path: &[u8]) -> Option<usize>
+    ensures { IfSome result (λ n. n ≤ length path.now) }
 {
     for i in (0..path.len()).rev() {
         if path[i] == b'/' {
-            return i + 1;
+            return Some(i + 1);
         }
     }
-    0
+    None
 }
 
 /// Nothing where the folder cannot be synced.
 fn sync_folder(rt: &HostRuntime, path: &[u8]) -> Option<()> {
-    let n = folder_length(path);
-    let folder = if n == 0 {
-        "."
-    } else {
-        str::from_utf8(&path[..n]).ok()?
+    let folder = match folder_length(path) {
+        Some(n) => str::from_utf8(&path[..n]).ok()?,
+        None => ".",
     };
     File::open(rt, folder).ok()?.sync_all().ok()
 }

@@ -39,6 +39,7 @@ fn fill(file: &mut File, buffer: &mut [u8]) -> io::Result<usize>
     ensures { IfOk result (λ n. n ≤ length buffer.new) }
 {
     let mut n: usize = 0;
+    // No plainer as a `for`: how far each read comes is the system's to say.
     while n < buffer.len() {
         let more = file.read(&mut buffer[n..])?;
         if more == 0 {

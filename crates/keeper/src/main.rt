@@ -107,6 +107,7 @@ impl Keeper {
     {
         let mut at: usize = 0;
         let mut n = held;
+        // No plainer as a `for`: how far a line reaches is known once it is cut.
         while at < piece.len() {
             match pieces::next_line(piece, at, line, n) {
                 Cut::Line(rest, len) => {
