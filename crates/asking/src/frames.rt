@@ -11,6 +11,9 @@ use buffers::Buffer;
 use edits::Edit;
 use paper::{Item, Kind, Record, Values};
 
+// An edit is taken apart before its digests go into an array: tried without that, no proof is found. What a frame carries stays a row of
+// parameters, as its kind's row of the table has it (docs/PROTOCOL.md, 5.1): a struct for each kind would say it twice.
+
 /// A frame; the longest is a path of ten levels.
 pub(crate) type Frame = Buffer<394>;
 

@@ -16,6 +16,7 @@ use slots::{LEVELS, SLOTS};
 mod frames;
 
 /// What is kept between the lines of a wish: its plan, how many of its lines were answered, and the memoranda of the last two replies.
+// The step stays a byte: docs/TRACE.md names `line` and `part_at`, and they answer for every byte.
 #[derive(Clone, Copy)]
 pub struct Talk {
     pub plan: Plan,

@@ -28,6 +28,9 @@ pub enum End {
     Otherwise,
 }
 
+// Leaves and nodes, their count and the counter stay apart: docs/TRACE.md names `hear`, which answers for all of them whatever they are.
+// `changed` has no value beside it that it speaks of.
+
 /// What a reply led to: how the wish stands; whether memory changed; how many leaves it holds, and the counter; and what is kept for
 /// the next line.
 #[derive(Clone, Copy)]
@@ -40,6 +43,7 @@ pub struct Heard {
 }
 
 /// The bytes of a reply that are known, and whether a memorandum follows.
+// A flag, as nothing is known of the memorandum that an Option could hold.
 #[derive(Drop)]
 struct Known {
     bytes: Buffer<65>,

@@ -68,6 +68,7 @@ fn serve_piece(
 {
     let mut left = from;
     let mut at: usize = 0;
+    // No plainer as a `for`: how far the replies reach is known once they are made.
     while at < piece.len() {
         kept[..left.held].copy_from_slice(&line[..left.held]);
         let o = session::serve(left.registers, piece, at, line, left.held, out);

@@ -21,6 +21,7 @@ pub struct Frame {
 }
 
 /// What the checks 2 and 3 look at: a frame's first byte and its size, and where a path has its n and its sides.
+// The first byte is no `Kind`: check 2 finds out whether it is one.
 #[derive(Clone, Copy)]
 struct Shape {
     kind: u8,

@@ -17,6 +17,9 @@ use paper::{Item, Kind, Record, Refusal, Registers, Revision, TOP, Values};
 use places::{FIELDS, NUMBER, RECORD, VALUES, digest, item, record_at, values_at};
 use replies::Outcome;
 
+// A row's function is lent its desk, as the blocks have to outlive a `?`; that none are counted yet is a clause of each, since a type for
+// such a desk would be another after the first check. What it takes are the fields of its kind's row of the table, one by one.
+
 /// The row of 10: hands in the secret, once.
 fn unlock_row(desk: &mut Desk, secret: [u8; 32]) -> Result<[u8; 0], Refusal>
     requires { desk.old.blocks ≡ 0 }

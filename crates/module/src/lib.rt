@@ -32,7 +32,7 @@ pub struct Answered {
     pub reply: Replied,
 }
 
-/// The number of a refusal by the reader, or 0.
+/// The number of a refusal by the reader, or 0: what is no frame reaches the arm of `let .. else` as the reader's whole answer (§10.1.3).
 #[tactic(auto, unfolding(crate::specs::Work::refusal_in))]
 fn number(got: Result<Frame, Refusal>) -> u8
     ensures { result ≡ refusal_in (read_told got) }

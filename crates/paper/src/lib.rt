@@ -63,6 +63,7 @@ pub struct Values {
 }
 
 /// §2.1.1 to §2.1.4: the registers.
+// `opened` stays beside the secret, and no Option holds it: docs/TRACE.md names functions that answer for closed registers with any secret.
 #[derive(Clone, Copy)]
 pub struct Registers {
     pub root: [u8; 32],

@@ -33,6 +33,7 @@ pub fn digest(f: &[u8], from: u16, i: u8) -> [u8; 32]
     digest_at(f, (from as usize) + 32 * (i as usize))
 }
 
+// Not one with `values_at`: a record's four numbers and a set's three are two types of the paper, whose fields have names.
 pub fn record_at(f: &[u8], at: u16) -> Record
     ensures { result ≡ record_in (bytes_at f.now at 32) }
 {

@@ -17,6 +17,9 @@ use paper::{Finding, Item, Kind, Record, Refusal, Registers};
 use places::{FIELDS, NUMBER, RECORD, digest, item, record_at};
 use replies::Outcome;
 
+// A row's function is lent its desk, as the blocks have to outlive a `?`; that none are counted yet is a clause of each, since a type for
+// such a desk would be another after the first check. What it takes are the fields of its kind's row of the table, one by one.
+
 /// The row of 0f: the list is empty; answers q.
 fn ask_none_row(desk: &mut Desk, q: Item) -> Result<[u8; 8], Refusal>
     requires { desk.old.blocks ≡ 0 }

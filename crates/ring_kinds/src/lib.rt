@@ -18,6 +18,9 @@ use replies::Outcome;
 /// No leaf, no record, no tree.
 const NONE: [u8; 32] = [0; 32];
 
+// A row's function is lent its desk, as the blocks have to outlive a `?`; that none are counted yet is a clause of each, since a type for
+// such a desk would be another after the first check. What it takes are the fields of its kind's row of the table, one by one.
+
 /// The row of 06: m is U2(x1,x2,y,x2,x1,y'); answers EI(y,y').
 fn swap_row(
     desk: &mut Desk,

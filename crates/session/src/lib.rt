@@ -11,6 +11,8 @@ use module::{Answered, Replied};
 use paper::{REPLY_ROOM, Registers, Revision};
 use pieces::Cut;
 
+// A line's space and how many of its bytes are held stay apart: docs/TRACE.md names `serve` and `finish`, which answer for any two.
+
 /// Where serving a piece came to: the registers, the place in the piece where the rest begins, how many bytes are held
 /// of the line that is not whole yet, and how many bytes of the output are replies.
 #[derive(Clone, Copy)]
@@ -61,6 +63,7 @@ pub fn serve(
         held: held.min(line.len()),
         filled: 0,
     };
+    // No plainer as a `for`: how far a line reaches is known once it is cut.
     while served.next < piece.len() && REPLY_ROOM <= out.len() - served.filled {
         match pieces::next_line(piece, served.next, line, served.held) {
             Cut::Line(next, len) => {

@@ -114,6 +114,7 @@ pub fn count_lines(text: &[u8]) -> Result<usize, usize>
     }
 }
 
+// The leaves and how many of them stay apart: docs/TRACE.md names `save`, which answers for any two.
 /// Writes the lines of the first k leaves over the front of the space, or nothing where they do not fit: whether they do.
 pub fn save(leaves: &[u64], k: usize, space: &mut [u8]) -> bool
     ensures value { result ≡ leb (line_bytes * k) (length space.old) }

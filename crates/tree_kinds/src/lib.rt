@@ -18,6 +18,9 @@ use paper::{Kind, MOST_SIBLINGS, Refusal, Registers};
 use places::{FIELDS, digest};
 use replies::Outcome;
 
+// A row's function is lent its desk, as the blocks have to outlive a `?`; that none are counted yet is a clause of each, since a type for
+// such a desk would be another after the first check. What it takes are the fields of its kind's row of the table, one by one.
+
 /// One level up, from u with its sibling s; bit is 1 if the sibling stands on the left.
 #[tactic(auto, using(crate::proofs::PathLaws::level_cost))]
 fn level(u: [u8; 32], s: [u8; 32], bit: u64) -> Digest

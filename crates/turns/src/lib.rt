@@ -23,6 +23,9 @@ pub struct Desk {
     pub talk: Option<Talk>,
 }
 
+// Leaves, nodes and output stay apart: docs/TRACE.md names `answer`, which answers for any of each. `changed` has no value beside it that
+// it speaks of.
+
 /// What a line led to: the desk, whether memory changed, and how many bytes of the output are the line that goes out, where it fits.
 #[derive(Clone, Copy)]
 pub struct Turn {
