@@ -44,7 +44,13 @@ pub fn ask_none(r: Registers, f: &[u8]) -> Outcome
 fn meets(q: Item, a: Item, b: Item) -> bool
     ensures { result ≡ either (eqb q.0 a.0) (S.in_gap q.0 a.0 b.0) }
 {
-    q.0 == a.0 || records::in_gap(q, a, b)
+    q == a || records::in_gap(q, a, b)
+}
+
+/// An ask's reply: exactly one of three findings (§10.1.5).
+#[derive(Clone, Copy)]
+struct AskReply {
+    finding: Finding,
 }
 
 /// The row of 0e: q is A or in the gap of A and A'; m is V1 of the leaf of A, A' and the record, and y is the root; answers what the
@@ -58,7 +64,7 @@ fn ask_row(
     rec: Record,
     y: [u8; 32],
     m: [u8; 32],
-) -> Result<Finding, Refusal>
+) -> Result<AskReply, Refusal>
     requires { desk.old.blocks ≡ 0 }
     ensures { outcome_at 14 (told result) desk.new ≡ row desk.old.registers 14 (Q.ask q.0 a.0 b.0 rec y m) }
 {
@@ -71,7 +77,9 @@ fn ask_row(
     let x = desk.leaf(a, b, rec);
     desk.fits(Memo::V1(x, y), m, Refusal::First)?;
     desk.is_root(y)?;
-    Ok(records::finding(q, a, b, rec))
+    Ok(AskReply {
+        finding: records::finding(q, a, b, rec),
+    })
 }
 
 /// A finding's bytes.
@@ -103,14 +111,17 @@ fn gap(a: Item, b: Item) -> [u8; 17]
 }
 
 /// An ask's outcome: a finding as its bytes.
-fn outcome(desk: &Desk, found: Result<Finding, Refusal>) -> Outcome
-    ensures { result ≡ outcome_at 14 (told found) desk.now }
+fn outcome(desk: &Desk, answer: Result<AskReply, Refusal>) -> Outcome
+    ensures { result ≡ outcome_at 14 (told answer) desk.now }
 {
-    match found {
-        Ok(Finding::Recorded(a, rec)) => desk.outcome(Kind::Ask, Ok(recorded(a, rec))),
-        Ok(Finding::Listed(a)) => desk.outcome(Kind::Ask, Ok(listed(a))),
-        Ok(Finding::Gap(a, b)) => desk.outcome(Kind::Ask, Ok(gap(a, b))),
-        Err(refusal) => desk.outcome::<0>(Kind::Ask, Err(refusal)),
+    let reply = match answer {
+        Ok(reply) => reply,
+        Err(refusal) => return desk.outcome::<0>(Kind::Ask, Err(refusal)),
+    };
+    match reply.finding {
+        Finding::Recorded(a, rec) => desk.outcome(Kind::Ask, Ok(recorded(a, rec))),
+        Finding::Listed(a) => desk.outcome(Kind::Ask, Ok(listed(a))),
+        Finding::Gap(a, b) => desk.outcome(Kind::Ask, Ok(gap(a, b))),
     }
 }
 
