@@ -1,15 +1,15 @@
 -- Checks made one after the other: the one law of all kinds, that a request whose row was walked comes to the outcome that the
 -- paper's table gives.
-use Rattle.std.proofs.Common.{◌≡◌, ℕ, ◌+◌, ◌≤◌, Bool, true, false, List, [], ◌∷◌, ◌++◌, length, refl, sym, ap, ◌∙◌, subst, arith, le-leb}
+use Rattle.std.proofs.Common.{◌≡◌, ℕ, ◌+◌, ◌≤◌, Bool, true, false, List, [], ◌∷◌, ◌++◌, length, refl, sym, ap, ap₂, ◌∙◌, subst, arith, le-leb}
 use Rattle.std.specs.Prelude.{Some, Result, Ok, Err, OnOk}
-use Rattle.seqs.specs.Choose.{pick, either, either_no, Every}
-use Rattle.seqs.specs.Bytes.{all_zero}
+use Rattle.seqs.specs.Choose.{pick, either, either_no, opposite, Every}
+use Rattle.seqs.specs.Bytes.{all_zero, same}
 use Rattle.sha256.specs.Hash.{sha256}
 use Rattle.paper.specs.declared.Record.{Record}
 use Rattle.paper.specs.declared.Registers.{Registers}
-use Rattle.paper.specs.Strings.{Dig, Str, cost, entry, leaf, blank, record_forms, record_hash}
+use Rattle.paper.specs.Strings.{Dig, Memo, Str, cost, entry, leaf, blank, memorandum, memorandum_forms, record_forms, record_hash}
 use Rattle.paper.specs.Requests as Q
-use Rattle.paper.specs.Refusals.{Check, request_order, needs, leaf_forms, Verdict, refused_by, all_passed, judge}
+use Rattle.paper.specs.Refusals.{none_fits, Check, request_order, needs, leaf_forms, Verdict, refused_by, all_passed, judge}
 use Rattle.paper.specs.Answers.{AnswerParts, answer}
 use Rattle.paper.specs.Module.{told_by}
 use Rattle.paper.proofs.Ceilings.{cost_append}
@@ -20,7 +20,11 @@ use Rattle.places.proofs.Places.{answer_short}
 use Rattle.checks.specs.declared.Desk.{Desk}
 use Rattle.paper.specs.declared.Refusal.{Refusal}
 use Rattle.paper.specs.Numbers.{refusal_number}
-use Rattle.checks.specs.Steps.{begun, outcome_at, walk, row}
+use Rattle.digests.specs.declared.Digest.{Digest}
+use Rattle.digests.specs.declared.Says.{Says}
+use Rattle.digests.specs.Speaking.{Spoken, made_of}
+use Rattle.digests.proofs.Speaking.{made_of_lem}
+use Rattle.checks.specs.Steps.{begun, held, outcome_at, walk, row}
 
 -- ── a leaf costs two blocks at most ──
 
@@ -144,3 +148,25 @@ answered s kind f {q} e b o =
     subst (λ (p : Q.Request). length (answer sha256 s p).lists ≤ 96) (sym e) (answer_short f kind s) in
     o ∙ ap (λ (d : Desk). row d.registers kind q) b
     ∙ paper_says s kind q (walk_is s kind q (needs sha256 s q) 0 [] room (numbered s q) refl) ∙ ap (outcome_for s kind) e
+
+-- ── a memorandum by the bytes of what it says is the one of the paper's string, with its count ──
+
+pub issues_it : {s : Says} {t : Memo} → Spoken s t → (k : Dig)
+    → ((made_of s k).bytes ≡ memorandum sha256 t k) × ((made_of s k).blocks ≡ cost (memorandum_forms sha256 t k))
+issues_it p k = let e = made_of_lem p k in (ap (λ (d : Digest). d.bytes) e, ap (λ (d : Digest). d.blocks) e)
+
+pub fits_one : {E : Type 0} {s : Says} {t : Memo} → Spoken s t → (k m : Dig) (e : E)
+    → held (same (made_of s k).bytes m) e ≡ held (same (memorandum sha256 t k) m) e
+fits_one p k m e = ap (λ (d : Dig). held (same d m) e) (issues_it p k).0
+
+two_tried : (b b' : Bool) → pick b true b' ≡ opposite (pick b false (pick b' false true))
+two_tried true b' = refl
+two_tried false true = refl
+two_tried false false = refl
+
+pub fits_either : {E : Type 0} {s s' : Says} {t t' : Memo} → Spoken s t → Spoken s' t' → (k m : Dig) (e : E)
+    → held (pick (same (made_of s k).bytes m) true (same (made_of s' k).bytes m)) e
+    ≡ held (opposite (none_fits sha256 k (t ∷ t' ∷ []) m)) e
+fits_either {t = t} {t'} p p' k m e =
+    ap₂ (λ (d d' : Dig). held (pick (same d m) true (same d' m)) e) (issues_it p k).0 (issues_it p' k).0
+    ∙ ap (λ (b : Bool). held b e) (two_tried (same (memorandum sha256 t k) m) (same (memorandum sha256 t' k) m))

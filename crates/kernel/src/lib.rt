@@ -80,7 +80,7 @@ pub fn answer_fitting(r: Registers, f: &[u8]) -> Outcome
 }
 
 /// One frame, well formed or not.
-#[tactic(auto, using(crate::proofs::Frames::frame_refused, crate::proofs::Frames::frame_answered))]
+#[tactic(auto, using(crate::proofs::Frames::frame_refused, crate::proofs::Frames::frame_accepted))]
 pub fn answer(r: Registers, frame: &[u8]) -> Outcome
     ensures { result ≡ outcome_of (answer_frame sha256 r frame.now) }
 {

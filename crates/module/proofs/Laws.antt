@@ -35,7 +35,7 @@ use Rattle.module.specs.declared.Answered.{Answered}
 use Rattle.module.specs.Answering.{answered_of}
 use Rattle.module.specs.Laws.{Promised}
 use Rattle.replies.specs.Outcomes.{number_told}
-use Rattle.kernel.proofs.Frames.{frame_refused, frame_answered}
+use Rattle.kernel.proofs.Frames.{frame_refused, frame_accepted}
 
 -- ── checks 15 and 1, before those of the frame ──
 
@@ -117,7 +117,7 @@ module _ (s : Registers) (line : List ℕ) where
       → (length (bytes_of line) ≤ longest_frame) × (answer_fitting s (bytes_of line) ≡ outcome_of (answer_to sha256 s line reply_room))
   read_line_by true h z = let w = read_1 line h in absurd (omega arith)
   read_line_by false h z =
-      (short line h, frame_answered s (bytes_of line) (sym z ∙ read_own line h) ∙ sym (ap outcome_of (is_hex_lem s line h)))
+      (short line h, frame_accepted s (bytes_of line) (sym z ∙ read_own line h) ∙ sym (ap outcome_of (is_hex_lem s line h)))
 
   line_read_lem : (k l : ℕ) → Frame k l ≡ read_of line longest_frame
       → (l ≡ length (bytes_of line)) × (length (bytes_of line) ≤ longest_frame)

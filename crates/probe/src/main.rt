@@ -106,10 +106,20 @@ fn write_probe(rt: &HostRuntime, line: &[u8]) -> Option<()> {
     Some(())
 }
 
+/// The line that says it.
+fn said(answer: &Option<[u8; 65]>) -> &[u8]
+    ensures { result.now ≡ told answer.now }
+{
+    match answer {
+        Some(digest) => digest,
+        None => b"?\n",
+    }
+}
+
 fn message_probe(rt: &HostRuntime, line: &[u8]) -> Option<()> {
     let mut message = [0u8; 8192];
-    let reply = answer(line, &mut message)?;
-    let _ = rt.write_all(&reply);
+    let answer = answer(line, &mut message);
+    let _ = rt.write_all(said(&answer));
     Some(())
 }
 
