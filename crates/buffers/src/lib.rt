@@ -5,19 +5,26 @@ ghost use Rattle.std.specs.Prelude.{◌≡◌, ◌+◌, ◌≤◌, ◌<◌, [], 
 
 use std::marker::Model;
 
-/// At most N bytes, which lie in the value itself.
-#[derive(Drop)]
+/// At most N bytes, which lie in the value itself, with zero bytes behind them.
+#[derive(Clone, Copy)]
 pub struct Buffer<const N: usize> {
     bytes: [u8; N],
     len: usize,
 }
 
 impl<const N: usize> Model for Buffer<N> {
+    ghost use Rattle.std.specs.Prelude.{List, ℕ, take};
+    ghost use Rattle.buffers.specs.Buffers.{over_zeros, Within, over_zeros_again};
+
     ghost Value = { List ℕ };
 
     ghost view = { λ b. take b.len b.bytes };
 
-    ghost invariant = { λ b. (b.len ≤ N) × (length b.bytes ≡ N) };
+    ghost invariant = { Within N };
+
+    ghost inverse = { over_zeros N };
+
+    ghost inverse_ok = { over_zeros_again N };
 }
 
 impl<const N: usize> Buffer<N> {
@@ -37,9 +44,8 @@ impl<const N: usize> Buffer<N> {
         ensures stays { N < length self.entry + length more.now → result ≡ self.entry }
     {
         if more.len() <= N - self.len {
-            let end = self.len + more.len();
-            self.bytes[self.len..end].copy_from_slice(more);
-            self.len = end;
+            fields::put(&mut self.bytes, self.len, more);
+            self.len += more.len();
         }
         self
     }

@@ -6,11 +6,11 @@ ghost use Rattle.decimals.specs.Decimals.{decimal_in, digits_in};
 ghost use Rattle.decimals.specs.Spelling.{numeral_of};
 
 /// A number's digits at the end of 20 bytes, which are as many as any has, and where they begin.
+// Both stay fields: docs/TRACE.md names `spell`, whose contract speaks of both.
 #[derive(Clone, Copy)]
 pub struct Numeral {
     pub bytes: [u8; 20],
     pub from: usize,
-    ghost inside: { from ≤ 20 },
 }
 
 impl Numeral {
@@ -18,7 +18,7 @@ impl Numeral {
     pub fn as_slice(&self) -> &[u8]
         ensures { result.now ≡ drop self.now.from self.now.bytes }
     {
-        &self.bytes[self.from..]
+        self.bytes.get(self.from..).unwrap_or(&[])
     }
 }
 

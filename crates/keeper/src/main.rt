@@ -136,15 +136,15 @@ impl Keeper {
         let mut held: usize = 0;
         for _ in 0..u64::MAX {
             let n = rt.stdin().read(input).map_err(|_| Stopped::Unread)?;
+            if n == 0 && held == 0 {
+                return Ok(());
+            }
             if n == 0 {
-                break;
+                return self.answer(rt, &line[..held], names);
             }
             held = self.serve_piece(rt, &input[..n], line, held, names)?;
         }
-        if held == 0 {
-            return Ok(());
-        }
-        self.answer(rt, &line[..held], names)
+        Ok(())
     }
 }
 
