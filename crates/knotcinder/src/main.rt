@@ -8,8 +8,7 @@ ghost use Rattle.paper.specs.Refusals.{longest_line, reply_room};
 ghost use Rattle.knotcinder.specs.Loop.{Due, Standing, Through};
 
 use paper::{LONGEST_LINE, Registers};
-use std::fmt;
-use std::io::{Eprint, Print, Read};
+use std::io::{Print, Read};
 
 /// The most bytes that one read takes, and the room for replies that go out together.
 const PIECE: usize = 65536;
@@ -21,16 +20,18 @@ enum Stop {
     Unwritten,
 }
 
-impl fmt::Display for Stop {
-    fn fmt<W: fmt::Write>(&self, f: &mut fmt::Formatter<W>) -> fmt::Result {
-        f.write_str(match self {
+impl Stop {
+    /// What is said of it. Bytes, and no `Display`: a formatter is called by way of its buffer, and how much stack that takes cannot be
+    /// read off the compiled program (docs/EXCEPTIONS.md, "Stack").
+    fn sentence(self) -> &'static [u8] {
+        match self {
             Stop::Unread => {
-                "standard input could not be read; the program stops here, and a line whose end was not read gets no reply"
+                b"knotcinder: standard input could not be read; the program stops here, and a line whose end was not read gets no reply\n"
             }
             Stop::Unwritten => {
-                "a reply could not be written; the program stops here, and a line without a whole reply gets none"
+                b"knotcinder: a reply could not be written; the program stops here, and a line without a whole reply gets none\n"
             }
-        })
+        }
     }
 }
 
@@ -143,6 +144,6 @@ fn main(rt: HostRuntime) {
     let mut kept = [0u8; LONGEST_LINE + 1];
     let mut out = [0u8; PIECE];
     if let Err(stop) = run(&rt, &mut input, &mut line, &mut kept, &mut out) {
-        let _ = eprintln!(rt; "knotcinder: {stop}");
+        let _ = rt.stderr().write_all(stop.sentence());
     }
 }

@@ -17,6 +17,7 @@ use paper::{Item, Kind, Record, Refusal, Registers, Revision, TOP, Values};
 use places::{FIELDS, NUMBER, RECORD, VALUES, digest, item, record_at, values_at};
 use replies::Outcome;
 
+// The public functions are kept out of line: together they would be one, with room on the stack for what each of them needs.
 // A row's function is lent its desk, as the blocks have to outlive a `?`; that none are counted yet is a clause of each, since a type for
 // such a desk would be another after the first check. What it takes are the fields of its kind's row of the table, one by one.
 
@@ -36,6 +37,7 @@ fn unlock_row(desk: &mut Desk, secret: [u8; 32]) -> Result<[u8; 0], Refusal>
 }
 
 /// 10 open: secret.
+#[inline(never)]
 pub fn unlock(r: Registers, f: &[u8]) -> Outcome
     ensures { result ≡ outcome_for r 16 (request_at 16 f.now) }
 {
@@ -60,6 +62,7 @@ fn adopt_row(desk: &mut Desk, y: [u8; 32], next: [u8; 32], m: [u8; 32]) -> Resul
 }
 
 /// 0b adopt: y, next, m.
+#[inline(never)]
 pub fn adopt(r: Registers, f: &[u8]) -> Outcome
     ensures { result ≡ outcome_for r 11 (request_at 11 f.now) }
 {
@@ -145,6 +148,7 @@ const SET_VALUES: u16 = OLD + RECORD;
 const SET_DIGESTS: u16 = SET_VALUES + VALUES;
 
 /// 0c set: A, A', old record, v2, v3, v4, y, y', m.
+#[inline(never)]
 pub fn set_record(r: Registers, f: &[u8]) -> Outcome
     ensures { result ≡ outcome_for r 12 (request_at 12 f.now) }
 {
@@ -193,6 +197,7 @@ fn clear_row(
 const CLEAR_DIGESTS: u16 = OLD + RECORD;
 
 /// 0d clear: A, A', old record, y, y', m.
+#[inline(never)]
 pub fn clear_record(r: Registers, f: &[u8]) -> Outcome
     ensures { result ≡ outcome_for r 13 (request_at 13 f.now) }
 {

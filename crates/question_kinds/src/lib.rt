@@ -17,6 +17,7 @@ use paper::{Finding, Item, Kind, Record, Refusal, Registers};
 use places::{FIELDS, NUMBER, RECORD, digest, item, record_at};
 use replies::Outcome;
 
+// The public functions are kept out of line: together they would be one, with room on the stack for what each of them needs.
 // A row's function is lent its desk, as the blocks have to outlive a `?`; that none are counted yet is a clause of each, since a type for
 // such a desk would be another after the first check. What it takes are the fields of its kind's row of the table, one by one.
 
@@ -32,6 +33,7 @@ fn ask_none_row(desk: &mut Desk, q: Item) -> Result<[u8; 8], Refusal>
 }
 
 /// 0f ask of none: q.
+#[inline(never)]
 pub fn ask_none(r: Registers, f: &[u8]) -> Outcome
     ensures { result ≡ outcome_for r 15 (request_at 15 f.now) }
 {
@@ -130,6 +132,7 @@ const ASK_RECORD: u16 = FIELDS + 3 * NUMBER;
 const ASK_DIGESTS: u16 = ASK_RECORD + RECORD;
 
 /// 0e ask: q, A, A', record, y, m.
+#[inline(never)]
 pub fn ask(r: Registers, f: &[u8]) -> Outcome
     ensures { result ≡ outcome_for r 14 (request_at 14 f.now) }
 {

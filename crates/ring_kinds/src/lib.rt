@@ -18,6 +18,7 @@ use replies::Outcome;
 /// No leaf, no record, no tree.
 const NONE: [u8; 32] = [0; 32];
 
+// The public functions are kept out of line: together they would be one, with room on the stack for what each of them needs.
 // A row's function is lent its desk, as the blocks have to outlive a `?`; that none are counted yet is a clause of each, since a type for
 // such a desk would be another after the first check. What it takes are the fields of its kind's row of the table, one by one.
 
@@ -39,6 +40,7 @@ fn swap_row(
 }
 
 /// 06: x1, x2, y, y', m.
+#[inline(never)]
 pub fn swap(r: Registers, f: &[u8]) -> Outcome
     ensures { result ≡ outcome_for r 6 (request_at 6 f.now) }
 {
@@ -76,6 +78,7 @@ fn first_row(desk: &mut Desk, a: Item) -> Result<[u8; 32], Refusal>
 }
 
 /// 07: A.
+#[inline(never)]
 pub fn first(r: Registers, f: &[u8]) -> Outcome
     ensures { result ≡ outcome_for r 7 (request_at 7 f.now) }
 {
@@ -120,6 +123,7 @@ fn place_row(
 const PLACE_DIGESTS: u16 = FIELDS + 3 * NUMBER;
 
 /// 08: A, A', B', w, y, y', m.
+#[inline(never)]
 pub fn place(r: Registers, f: &[u8]) -> Outcome
     ensures { result ≡ outcome_for r 8 (request_at 8 f.now) }
 {
@@ -148,6 +152,7 @@ fn turn_row(desk: &mut Desk, x: [u8; 32], y: [u8; 32], m: [u8; 32]) -> Result<[u
 }
 
 /// 09: x, y, m.
+#[inline(never)]
 pub fn turn(r: Registers, f: &[u8]) -> Outcome
     ensures { result ≡ outcome_for r 9 (request_at 9 f.now) }
 {
@@ -180,6 +185,7 @@ fn chain_row(
 }
 
 /// 0a: x, y, m1, z, m2.
+#[inline(never)]
 pub fn chain(r: Registers, f: &[u8]) -> Outcome
     ensures { result ≡ outcome_for r 10 (request_at 10 f.now) }
 {

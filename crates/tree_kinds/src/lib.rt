@@ -18,6 +18,7 @@ use paper::{Kind, MOST_SIBLINGS, Refusal, Registers};
 use places::{FIELDS, digest};
 use replies::Outcome;
 
+// The public functions are kept out of line: together they would be one, with room on the stack for what each of them needs.
 // A row's function is lent its desk, as the blocks have to outlive a `?`; that none are counted yet is a clause of each, since a type for
 // such a desk would be another after the first check. What it takes are the fields of its kind's row of the table, one by one.
 
@@ -90,6 +91,7 @@ fn path_row(
 }
 
 /// 01: x, x', n, sides and n siblings, read already: the first n of the siblings, all of them where there are fewer.
+#[inline(never)]
 pub fn path(
     r: Registers,
     x: [u8; 32],
@@ -116,6 +118,7 @@ fn witness_row(desk: &mut Desk, x: [u8; 32], y: [u8; 32], m: [u8; 32]) -> Result
 }
 
 /// 02: x, y, m.
+#[inline(never)]
 pub fn witness(r: Registers, f: &[u8]) -> Outcome
     ensures { result ≡ outcome_for r 2 (request_at 2 f.now) }
 {
@@ -151,6 +154,7 @@ fn join_row(
 }
 
 /// 03: x, y, x', y', m1, z, z', m2.
+#[inline(never)]
 pub fn join(r: Registers, f: &[u8]) -> Outcome
     ensures { result ≡ outcome_for r 3 (request_at 3 f.now) }
 {
@@ -208,6 +212,7 @@ fn pair_row(
 }
 
 /// 04: x1, y, x1', y', m1, x2, z, x2', z', m2.
+#[inline(never)]
 pub fn pair(r: Registers, f: &[u8]) -> Outcome
     ensures { result ≡ outcome_for r 4 (request_at 4 f.now) }
 {
@@ -252,6 +257,7 @@ fn raise_row(
 }
 
 /// 05: x1, x2, y, x1', x2', y', m1, z, z', m2.
+#[inline(never)]
 pub fn raise(r: Registers, f: &[u8]) -> Outcome
     ensures { result ≡ outcome_for r 5 (request_at 5 f.now) }
 {
