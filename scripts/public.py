@@ -5,7 +5,8 @@ A public function is one that code outside its crate can call, or could as soon 
   in a module that is itself private too, since `pub mod` in another file would open that without anybody looking here;
 - a `#[unsafe(no_mangle)]` function without `pub`, since a program in another language finds it all the same.
 `pub(crate) fn` and a plain `fn` are not public. What stands in comments or between quotation marks is no code.
-A public function is called `crate::function`, whatever module it stands in; so no two of a crate may have one name.
+A public function is called `crate::function`, and a method `crate::Type::function`, whatever module it stands in; so no two of a
+crate, or of a type, may have one name.
 """
 import collections
 import re
@@ -17,7 +18,8 @@ ATTRIBUTE = r"#\[[^\]]*\]\s*"
 HEAD = re.compile(rf'(?:\bpub\s+|#\[unsafe\(no_mangle\)\]\s*(?:{ATTRIBUTE})*)(?:const\s+|unsafe\s+|extern\s*""\s*)*fn\s+(\w+)')
 FIRST_CLAUSE = re.compile(r"(?:requires|ensures|ghost)\b")
 CLAUSE = re.compile(r"\s*([a-z]+)\b[^{;]*\{")
-EXCUSED = re.compile(r"`(\w+::\w+)`")
+OWNER = re.compile(r"\bimpl\b\s*(?:<[^{]*?>\s*)?(\w+)(?:<[^{]*>)?\s*\{")
+EXCUSED = re.compile(r"`(\w+(?:::\w+)+)`")
 
 
 def code(text):
@@ -47,15 +49,21 @@ def past_braces(text, at):
     return len(text)
 
 
+def owners(text):
+    """(begin, end, type) of each block of a type's own functions; those of a trait are as public as the trait is."""
+    return [(found.end(), past_braces(text, found.end() - 1), found[1]) for found in OWNER.finditer(text)]
+
+
 def contracts(text):
     """(name, kinds of clause) of each public function of a source."""
     text = code(text)
+    blocks = owners(text)
     for head in HEAD.finditer(text):
         at, kinds = past_signature(text, head.end()), []
         while clause := CLAUSE.match(text, at):
             kinds.append(clause[1])
             at = past_braces(text, clause.end() - 1)
-        yield head[1], kinds
+        yield "::".join([owner for begin, end, owner in blocks if begin <= head.start() < end] + [head[1]]), kinds
 
 
 def functions(root):

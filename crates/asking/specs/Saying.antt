@@ -1,6 +1,6 @@
 -- What is said at each step of a wish, as a request of the paper: made of the plan, the memoranda of the last two replies, and the
 -- nodes in memory.
-use Rattle.std.specs.Prelude.{Bool, true, false, List, ℕ, suc, ◌+◌, ◌-◌, ◌%◌, ◌^◌, leb, length}
+use Rattle.std.specs.Prelude.{Bool, true, false, List, Option, Some, None, ℕ, suc, ◌+◌, ◌-◌, ◌%◌, ◌^◌, leb, length}
 use Rattle.seqs.specs.Choose.{pick}
 use Rattle.hexadecimal.specs.Hex.{line_of}
 use Rattle.paper.specs.Strings.{nought}
@@ -129,6 +129,6 @@ module _ (nodes : List ℕ) (t : Talk) where
   abbrev pub line_at : List ℕ
   line_at = line_of (frame_of request_at)
 
--- the length of a line where it fits the space, and else 0
-unfoldable pub fitting_length : (line : List ℕ) (space : ℕ) → ℕ
-fitting_length l space = pick (leb (length l) space) (length l) 0
+-- the length of a line where it fits the space
+unfoldable pub fitting_length : (line : List ℕ) (space : ℕ) → Option ℕ
+fitting_length l space = pick (leb (length l) space) (Some (length l)) None

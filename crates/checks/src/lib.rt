@@ -1,142 +1,130 @@
-// A request's checks, made one after the other: one value goes through them and becomes the outcome. A kind calls `begin_open`,
-// then one function for each check of its row of the table, in the row's order, and ends with `issue` or `finish`.
+//! A request's checks, made one after the other at a desk. A kind's function reads as its row of the table: a line for each check,
+//! in the row's order, each left by `?` where it fails, and the answer at the end; `outcome` makes a reply of either.
 #![tactic(auto)]
 
-ghost use Rattle.std.specs.Prelude.{◌≡◌, []};
+ghost use Rattle.std.specs.Prelude.{◌≡◌, ◌≤◌, [], ◌∷◌};
 ghost use Rattle.seqs.specs.Choose.{opposite};
 ghost use Rattle.seqs.specs.Bytes.{same};
-ghost use Rattle.paper.specs.Refusals.{plain, is_open};
-ghost use Rattle.checks.specs.Steps.{unjudged, CheckMade, WorkAdded, Finished, MemoCompared, MemoComparedEither, MemoIssued};
+ghost use Rattle.sha256.specs.Hash.{sha256};
+ghost use Rattle.paper.specs.Numbers.{kind_number};
+ghost use Rattle.paper.specs.Strings.{cost, digest_of, memorandum, memorandum_forms};
+ghost use Rattle.paper.specs.Refusals.{none_fits, tried, leaf_of, leaf_forms};
+ghost use Rattle.digests.specs.Speaking.{memo_of};
+ghost use Rattle.checks.specs.Steps.{begun, blocks_more, held, outcome_at};
 
-use digests::Says;
-use paper::Registers;
+use digests::Memo;
+use paper::{Item, Kind, Record, Refusal, Registers};
 use replies::Outcome;
-use std::num::wrapping_add_u64;
 
-// Whether a check failed, the number of the last check that was made, and the blocks worked so far. They are counted modulo
-// 2^64: no request comes near that, and so no sum here asks anything of its caller.
+/// The registers that a request is judged on, and the blocks worked for it so far. They are counted modulo 2^64: no request comes
+/// near that, and so no sum here asks anything of its caller.
 #[derive(Clone, Copy)]
-pub struct Judged {
-    pub stopped: bool,
-    pub number: u8,
+pub struct Desk {
+    pub registers: Registers,
     pub blocks: u64,
 }
 
-// No check made.
-pub fn begin() -> Judged
-    ensures { result ≡ unjudged }
-{
-    Judged {
-        stopped: false,
-        number: 0,
-        blocks: 0,
+impl Desk {
+    /// No check made.
+    pub fn new(registers: Registers) -> Self
+        ensures { result ≡ begun registers }
+    {
+        Desk {
+            registers,
+            blocks: 0,
+        }
     }
-}
 
-// A check that forms no string, made unless one before it failed.
-pub fn refuse_if(j: Judged, number: u8, fails: bool) -> Judged
-    ensures { CheckMade j (plain number fails) result }
-{
-    if j.stopped {
-        return j;
+    /// A check that forms no string.
+    pub fn check<E: Drop>(&self, holds: bool, refusal: E) -> Result<(), E>
+        ensures { result ≡ held holds refusal }
+    {
+        if holds { Ok(()) } else { Err(refusal) }
     }
-    Judged {
-        stopped: fails,
-        number: number,
-        blocks: j.blocks,
-    }
-}
 
-pub fn refuse_unless(j: Judged, number: u8, holds: bool) -> Judged
-    ensures { CheckMade j (plain number (opposite holds)) result }
-{
-    if holds {
-        return refuse_if(j, number, false);
+    /// 13, the first check of every kind but open.
+    pub fn is_open(&self) -> Result<(), Refusal>
+        ensures { result ≡ held self.now.registers.opened Refusal.Unopened }
+    {
+        self.check(self.registers.opened, Refusal::Unopened)
     }
-    refuse_if(j, number, true)
-}
 
-// 13, the first check of every kind but open.
-pub fn begin_open(r: Registers) -> Judged
-    ensures { CheckMade unjudged (is_open r) result }
-{
-    let j = begin();
-    refuse_unless(j, 13, r.opened)
-}
+    /// 10: y is the root that the module holds.
+    pub fn is_root(&self, y: [u8; 32]) -> Result<(), Refusal>
+        ensures { result ≡ held (same y self.now.registers.root) Refusal.Stale }
+    {
+        self.check(fields::same_digest(y, self.registers.root), Refusal::Stale)
+    }
 
-// 10: y is not the root that the module holds.
-pub fn refuse_stale(j: Judged, y: [u8; 32], root: [u8; 32]) -> Judged
-    ensures { CheckMade j (plain 10 (opposite (same y root))) result }
-{
-    refuse_unless(j, 10, fields::same_digest(y, root))
-}
+    /// Blocks worked for the check that follows, or for the answer.
+    pub fn work(&mut self, blocks: u64)
+        ensures { self.new ≡ blocks_more self.old blocks }
+    {
+        self.blocks = self.blocks.wrapping_add(blocks);
+    }
 
-// Blocks worked for the check that follows, or for the answer.
-pub fn work(j: Judged, blocks: u64) -> Judged
-    ensures { WorkAdded j blocks result }
-{
-    if j.stopped {
-        return j;
+    /// The memorandum of what is said, worked.
+    pub fn issue(&mut self, says: Memo) -> [u8; 32]
+        ensures is { result ≡ memorandum sha256 (memo_of says) self.old.registers.secret }
+        ensures counted { self.new ≡ blocks_more self.old (cost (memorandum_forms sha256 (memo_of says) self.old.registers.secret)) }
+    {
+        let due = says.made(self.registers.secret);
+        self.work(due.blocks);
+        due.bytes
     }
-    Judged {
-        stopped: false,
-        number: j.number,
-        blocks: wrapping_add_u64(j.blocks, blocks),
-    }
-}
 
-// 8 or 9: m is not the memorandum of what is said.
-pub fn compare(j: Judged, number: u8, s: Says, secret: [u8; 32], m: [u8; 32]) -> Judged
-    ensures { MemoCompared j number s secret m result }
-{
-    if j.stopped {
-        return j;
+    /// 8 or 9: m is the memorandum of what is said.
+    pub fn fits<E: Drop>(&mut self, says: Memo, m: [u8; 32], refusal: E) -> Result<(), E>
+        ensures is { result ≡ held (same (memorandum sha256 (memo_of says) self.old.registers.secret) m) refusal }
+        ensures counted { self.new ≡ blocks_more self.old (cost (memorandum_forms sha256 (memo_of says) self.old.registers.secret)) }
+    {
+        let due = self.issue(says);
+        self.check(fields::same_digest(due, m), refusal)
     }
-    let d = digests::memorandum(s, secret);
-    let due = d.bytes;
-    let made = work(j, d.blocks);
-    refuse_unless(made, number, fields::same_digest(due, m))
-}
 
-// 8 of a memorandum that may say one of two things: the second is tried where the first does not fit.
-pub fn compare_either(j: Judged, s: Says, t: Says, secret: [u8; 32], m: [u8; 32]) -> Judged
-    ensures { MemoComparedEither j s t secret m result }
-{
-    if j.stopped {
-        return j;
+    /// 8 of a memorandum that may say one of two things: the second is tried where the first does not fit.
+    pub fn fits_either<E: Drop>(
+        &mut self,
+        first: Memo,
+        second: Memo,
+        m: [u8; 32],
+        refusal: E,
+    ) -> Result<(), E>
+        ensures is { result ≡ held (opposite (none_fits sha256 self.old.registers.secret (memo_of first ∷ memo_of second ∷ []) m)) refusal }
+        ensures counted { self.new ≡ blocks_more self.old (cost (tried sha256 self.old.registers.secret (memo_of first ∷ memo_of second ∷ []) m)) }
+    {
+        if self.fits(first, m, ()).is_ok() {
+            return Ok(());
+        }
+        self.fits(second, m, refusal)
     }
-    let i = compare(j, 8, s, secret, m);
-    if !i.stopped {
-        return i;
-    }
-    let resumed = Judged {
-        stopped: false,
-        number: 8,
-        blocks: i.blocks,
-    };
-    compare(resumed, 8, t, secret, m)
-}
 
-// Refused by the check that failed, or answered with these registers and bytes.
-pub fn finish(r: Registers, j: Judged, first: u8, after: Registers, lists: &[u8]) -> Outcome
-    ensures { Finished r j first after lists.now [] result }
-{
-    if j.stopped {
-        return replies::refuse(r, j.number, j.blocks);
+    /// The leaf of an item, the next one and a record, worked for the check that follows.
+    #[tactic(auto, using(crate::proofs::Steps::few_leaf))]
+    pub fn leaf(&mut self, item: Item, next: Item, rec: Record) -> [u8; 32]
+        ensures is { result ≡ digest_of sha256 (leaf_of sha256 item.0 next.0 rec) }
+        ensures counted { self.new ≡ blocks_more self.old (cost (leaf_forms sha256 item.0 next.0 rec)) }
+        ensures few { cost (leaf_forms sha256 item.0 next.0 rec) ≤ 2 }
+    {
+        let leaf = digests::leaf_of(item, next, rec);
+        self.work(leaf.blocks);
+        leaf.bytes
     }
-    replies::accept(after, first, lists, j.blocks)
-}
 
-// Refused by the check that failed, or answered with the memorandum of what is said; the registers stay as they are.
-pub fn issue(r: Registers, j: Judged, first: u8, s: Says) -> Outcome
-    ensures { MemoIssued r j first s result }
-{
-    if j.stopped {
-        return replies::refuse(r, j.number, j.blocks);
+    /// What the request leaves of the registers.
+    pub fn leave(&mut self, registers: Registers)
+        ensures { self.new ≡ record { registers = registers; blocks = self.old.blocks } }
+    {
+        self.registers = registers;
     }
-    let secret = r.secret;
-    let d = digests::memorandum(s, secret);
-    let bytes = d.bytes;
-    let worked = work(j, d.blocks);
-    replies::accept(r, first, &bytes, worked.blocks)
+
+    /// The outcome of a request of a kind: refused by the check that failed, or answered with what is listed.
+    pub fn outcome<const N: usize>(&self, kind: Kind, answer: Result<[u8; N], Refusal>) -> Outcome
+        ensures { result ≡ outcome_at (kind_number kind) answer.entry self.now }
+    {
+        match answer {
+            Ok(lists) => replies::accept(self.registers, 0x80 + kind.number(), &lists, self.blocks),
+            Err(refusal) => replies::refuse(self.registers, refusal.number(), self.blocks),
+        }
+    }
 }

@@ -8,7 +8,7 @@ use native.Mathlib.Omega.{arith}
 use native.Mathlib.Decide.{dec_le}
 use borrow.Author.Tests.{lt-ltb, le-ltb, le-leb, ne_eqb}
 use Rattle.seqs.specs.Choose.{both_true}
-use Rattle.decimals.specs.declared.Decimal.TheVariants.{Number}
+use Rattle.std.specs.Prelude.{Some}
 use Rattle.decimals.specs.Decimals.{is_decimal, all_decimal, numeral_from, plainly, digits_in, decimal_in}
 use Rattle.decimals.specs.Spelling.{numeral_up_to, numeral_of, ten_to}
 
@@ -88,7 +88,7 @@ plain k n h =
       | no m ↦ ap plainly (one k n (omega arith))
     ]
 
-pub spelled_reads : (n : ℕ) → n < 2 ^ 64 → decimal_in (numeral_of n) ≡ Number n
+pub spelled_reads : (n : ℕ) → n < 2 ^ 64 → decimal_in (numeral_of n) ≡ Some n
 unfolding decimal_in digits_in
 spelled_reads n h =
     let number : numeral_from 0 (numeral_of n) ≡ n = the_number 20 n (omega arith) in

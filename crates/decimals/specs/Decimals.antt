@@ -1,8 +1,6 @@
 -- Numbers as people write them: decimal digits, without a sign and without a 0 in front.
-use Rattle.std.specs.Prelude.{Bool, true, false, List, [], ◌∷◌, ℕ, ◌+◌, ◌-◌, ◌*◌, ◌^◌, eqb, leb, ltb}
+use Rattle.std.specs.Prelude.{Bool, true, false, List, [], ◌∷◌, Option, Some, None, ℕ, ◌+◌, ◌-◌, ◌*◌, ◌^◌, eqb, leb, ltb}
 use Rattle.seqs.specs.Choose.{pick, both, opposite}
-use Rattle.decimals.specs.declared.Decimal.{Decimal}
-use Rattle.decimals.specs.declared.Decimal.TheVariants.{Number, NoNumber}
 
 -- the digits 0 to 9 are the bytes 48 to 57
 unfoldable pub is_decimal : ℕ → Bool
@@ -24,9 +22,9 @@ plainly (c ∷ []) = true
 plainly (c ∷ d ∷ l) = opposite (eqb c 48)
 
 -- the number of some digits, where eight bytes hold it
-unfoldable pub digits_in : List ℕ → Decimal
-digits_in l = pick (both (all_decimal l) (ltb (numeral_from 0 l) (2 ^ 64))) (Number (numeral_from 0 l)) NoNumber
+unfoldable pub digits_in : List ℕ → Option ℕ
+digits_in l = pick (both (all_decimal l) (ltb (numeral_from 0 l) (2 ^ 64))) (Some (numeral_from 0 l)) None
 
 -- the number that a text is
-unfoldable pub decimal_in : List ℕ → Decimal
-decimal_in l = pick (plainly l) (digits_in l) NoNumber
+unfoldable pub decimal_in : List ℕ → Option ℕ
+decimal_in l = pick (plainly l) (digits_in l) None

@@ -4,7 +4,7 @@ use mathlib.Core.Path.{◌≡◌, refl, sym, ap, subst, ◌∙◌}
 use mathlib.Core.Bool.{Bool, true, false}
 use mathlib.Core.List.{List, [], ◌∷◌, ◌++◌}
 use mathlib.Core.Logic.{◌⊎◌, inl, inr}
-use Prim.Native.Nat.{ℕ, ◌+◌, ◌≤◌, ◌<◌}
+use Prim.Native.Nat.{ℕ, zero, suc, ◌+◌, ◌≤◌, ◌<◌}
 use native.Mathlib.Omega.{arith}
 use native.Mathlib.Decide.{dec_le}
 use borrow.Author.Tests.{eqb-true}
@@ -21,6 +21,8 @@ use Rattle.paper.specs.Answers.{finding_in}
 use Rattle.paper.specs.Module.{answer_to, reply_line, space_after}
 use Rattle.paper.specs.Refusals.{reply_room, top}
 use Rattle.paper.proofs.Room.{room}
+use Rattle.std.proofs.Common.{None, Some}
+use Rattle.replies.specs.Outcomes.{number_told}
 use Rattle.lines.proofs.Follows.{read_is_first, write_is_first}
 use Rattle.lines.proofs.RoundTrip.{written_reads, read_writes, one_line}
 use Rattle.module.specs.declared.Answered.{Answered}
@@ -42,27 +44,27 @@ one_reply : OneReply
 one_reply s line space after o p = by_test (eqb (answer_to sha256 s line (length space)).refusal 15) refl (dec_le reply_room (length space))
   where
     by_test : (b : Bool) → eqb (answer_to sha256 s line (length space)).refusal 15 ≡ b → Dec (reply_room ≤ length space)
-        → ((o.refused ≡ 15) × (length space < reply_room) × (after ≡ space))
-        ⊎ ((says : List ℕ) × (after ≡ line_of says ++ drop o.length space) × (o.length ≡ length (line_of says)))
+        → ((o.reply.refused ≡ Some 15) × (length space < reply_room) × (after ≡ space))
+        ⊎ ((says : List ℕ) × (after ≡ line_of says ++ drop o.reply.length space) × (o.reply.length ≡ length (line_of says)))
     by_test true e (yes h) =
         let t = answer_to sha256 s line (length space) in
         absurd ((room sha256 sha256_length s line).enough (length space) h (eqb-true t.refusal 15 e))
     by_test true e (no n) =
         let t = answer_to sha256 s line (length space) in
         inl (
-          ap (λ (x : Answered). x.refused) p.returned ∙ eqb-true t.refusal 15 e,
+          ap (λ (x : Answered). x.reply.refused) p.returned ∙ ap number_told (eqb-true t.refusal 15 e),
           omega (arith, n),
           p.left ∙ ap (λ (r : List ℕ). r ++ drop (length r) space) (ap (λ (b : Bool). pick b [] (line_of t.says)) e),
         )
     by_test false e d =
         let t = answer_to sha256 s line (length space) in
         let line_is : reply_line t ≡ line_of t.says = ap (λ (b : Bool). pick b [] (line_of t.says)) e in
-        let long = ap (λ (x : Answered). x.length) p.returned in
+        let long = ap (λ (x : Answered). x.reply.length) p.returned in
         inr (t.says, p.left ∙ (λ i. line_is i ++ drop (sym long i) space), long ∙ ap (λ (r : List ℕ). length r) line_is)
 
 as_defined : AsDefined
 as_defined s line space after o p =
-    (ap (λ (x : Answered). x.registers) p.returned, p.left, ap (λ (x : Answered). x.blocks) p.returned)
+    (ap (λ (x : Answered). x.registers) p.returned, p.left, ap (λ (x : Answered). x.reply.blocks) p.returned)
 
 -- what the contract describes meets it
 some_answer : (s : Registers) (line space : List ℕ) → (o : Answered) × (left : List ℕ) × Promised s line space o left
@@ -87,11 +89,15 @@ replied k (c ∷ cs) h =
       replied k cs h.1,
     )
 
+told_none : (n : ℕ) → number_told n ≡ None → n ≡ 0
+told_none zero h = refl
+told_none (suc n) h = cc
+
 -- §8.3.4: what came back is the run's, and the run's answers are true
 reply_true : (k : Dig) (c : Call) (cs : List Call) → RepliedAlong k (c ∷ cs) → AllFair sha256 k (turns_of_calls (c ∷ cs)) → AnsweredTrue k c cs
 reply_true k c cs h f accepted asks =
     let told = told_at sha256 (after sha256 k (turns_of_calls cs)) (record { line = c.line; space = length c.space }) in
-    let zero-refusal : told.refusal ≡ 0 = sym (ap (λ (x : Answered). x.refused) h.0) ∙ accepted in
+    let zero-refusal : told.refusal ≡ 0 = told_none told.refusal (sym (ap (λ (x : Answered). x.reply.refused) h.0) ∙ accepted) in
     let line_is : reply_line told ≡ line_of told.says = ap (λ (n : ℕ). pick (eqb n 15) [] (line_of told.says)) zero-refusal in
     let true_answer = f.0.true_answer zero-refusal in (
       told.says,

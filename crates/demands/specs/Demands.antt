@@ -2,7 +2,7 @@
 -- They speak of ANY function that meets the contract of `module::answer` or of `module::answer_here`, whatever its code: of what it was
 -- given and what came back. The contract is `Promised`; the words in it are the paper's, as the crate `paper` defines them. What
 -- follows besides is in `Beyond`: one can believe the demands without reading it.
-use Rattle.std.specs.Prelude.{◌≡◌, true, List, [], ◌∷◌, ◌++◌, ◌⊎◌, ℕ, ◌+◌, ◌<◌, length, get_or, drop}
+use Rattle.std.specs.Prelude.{◌≡◌, true, None, Some, List, [], ◌∷◌, ◌++◌, ◌⊎◌, ℕ, ◌+◌, ◌<◌, length, get_or, drop}
 use Rattle.hexadecimal.specs.Hex.{bytes_of, line_of}
 use Rattle.sha256.specs.Hash.{sha256}
 use Rattle.paper.specs.declared.Registers.{Registers}
@@ -49,8 +49,8 @@ turns_of_calls (c ∷ cs) = record { line = c.line; space = length c.space } ∷
 -- where it has less than 195 bytes, 15 comes back and nothing was written
 abbrev pub OneReply : Type 0
 OneReply = (s : Registers) (line space after : List ℕ) (o : Answered) → Promised s line space o after
-    → ((o.refused ≡ 15) × (length space < reply_room) × (after ≡ space))
-    ⊎ ((says : List ℕ) × (after ≡ line_of says ++ drop o.length space) × (o.length ≡ length (line_of says)))
+    → ((o.reply.refused ≡ Some 15) × (length space < reply_room) × (after ≡ space))
+    ⊎ ((says : List ℕ) × (after ≡ line_of says ++ drop o.reply.length space) × (o.reply.length ≡ length (line_of says)))
 
 pub record FirstDemand : Type 0 where
   pub one_reply : OneReply
@@ -73,7 +73,7 @@ pub record FirstDemand : Type 0 where
 abbrev pub AsDefined : Type 0
 AsDefined = (s : Registers) (line space after : List ℕ) (o : Answered) → Promised s line space o after
     → (let t = answer_to sha256 s line (length space) in
-    (o.registers ≡ t.after) × (after ≡ reply_line t ++ drop (length (reply_line t)) space) × (o.blocks ≡ cost t.formed))
+    (o.registers ≡ t.after) × (after ≡ reply_line t ++ drop (length (reply_line t)) space) × (o.reply.blocks ≡ cost t.formed))
 
 pub record SecondDemand : Type 0 where
   pub as_defined : AsDefined
@@ -92,7 +92,7 @@ IsQuestion line = (kind_of (bytes_of line) ≡ 0x0e) ⊎ (kind_of (bytes_of line
 -- question, and it is true of the number asked and of the list as it was then
 abbrev pub AnsweredTrue : (secret : Dig) (c : Call) (before : List Call) → Type 0
 AnsweredTrue k c cs =
-    c.came.refused ≡ 0 → IsQuestion c.line → (says : List ℕ) × (c.left ≡ line_of says ++ drop (length (line_of says)) c.space)
+    c.came.reply.refused ≡ None → IsQuestion c.line → (says : List ℕ) × (c.left ≡ line_of says ++ drop (length (line_of says)) c.space)
     × (get_or says 0 0 ≡ 0x80 + kind_of (bytes_of c.line))
     × TrueReply sha256 (question_in (bytes_of c.line)) (after sha256 k (turns_of_calls cs)).items says
 

@@ -59,6 +59,9 @@ made_of_lem {s} {t} p k =
     let each = ap blocks size ∙ count in
     λ i. record { bytes = sha256 (bytes i); blocks = each i }
 
+pub made_of_all : {s : Says} {t : Memo} → Spoken s t → (k : Dig) → made_of s k ≡ hashed (memo_string t k)
+made_of_all p k = made_of_lem p k
+
 pub one_saying : OneSaying
 one_saying s s' t p p' =
     let size : s.length ≡ s'.length = p.is.long ∙ sym p'.is.long in

@@ -3,9 +3,18 @@ use Rattle.std.specs.Prelude.{◌≡◌, List, ◌∷◌, ◌++◌, ℕ, ◌+◌
 use Rattle.seqs.specs.Choose.{Every}
 use Rattle.sha256.specs.Hash.{sha256}
 use Rattle.sha256.specs.Padding.{blocks}
-use Rattle.paper.specs.Strings.{Dig, Memo, memo_tag, memo_digests, digs, spread}
+use Rattle.paper.specs.Strings as S
+use Rattle.paper.specs.Strings.{Dig, memo_tag, memo_digests, digs, spread}
 use Rattle.digests.specs.declared.Digest.{Digest}
+use Rattle.digests.specs.declared.Memo.{Memo}
 use Rattle.digests.specs.declared.Says.{Says}
+
+-- the paper's memorandum
+abbrev pub memo_of : Memo → S.Memo
+memo_of (Memo.U1 x y x' y') = S.u1 x y x' y'
+memo_of (Memo.V1 x y) = S.v1 x y
+memo_of (Memo.U2 x1 x2 y x1' x2' y') = S.u2 x1 x2 y x1' x2' y'
+memo_of (Memo.Ei y y') = S.ei y y'
 
 -- each of some digests has its 32 bytes
 abbrev pub AllWhole : List Dig → Type 0
@@ -18,7 +27,7 @@ pub record SaidAs (s : Says) (tag : ℕ) (parts : List Dig) : Type 0 where
   pub long : s.length ≡ 1 + 32 * length parts
 
 -- these are what a memorandum says
-pub record Spoken (s : Says) (t : Memo) : Type 0 where
+pub record Spoken (s : Says) (t : S.Memo) : Type 0 where
   pub is : SaidAs s (memo_tag t) (memo_digests t)
 
 -- the digest of what is said with the secret behind it, whatever is said; of what a memorandum says, the memorandum
@@ -26,6 +35,6 @@ pub record Spoken (s : Says) (t : Memo) : Type 0 where
 unfoldable pub made_of : Says → (secret : Dig) → Digest
 made_of s k = record { bytes = sha256 (take s.length s.bytes ++ k); blocks = blocks (s.length + 32) }
 
--- §8.4.2: two outcomes that the contract of u1, v1, u2 or ei allows are equal
+-- §8.4.2: two outcomes that the contract of `says` allows are equal
 abbrev pub OneSaying : Type 0
-OneSaying = (s s' : Says) (t : Memo) → Spoken s t → Spoken s' t → s ≡ s'
+OneSaying = (s s' : Says) (t : S.Memo) → Spoken s t → Spoken s' t → s ≡ s'

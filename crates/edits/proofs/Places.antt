@@ -1,8 +1,7 @@
 -- A slot that is there, and one that is not.
-use mathlib.Core.Path.{◌≡◌, refl}
+use mathlib.Core.Path.{◌≡◌}
 use mathlib.Core.List.{List}
 use Prim.Native.Nat.{ℕ, ◌+◌, ◌-◌, ◌<◌, ◌≤◌}
-use native.Mathlib.Omega.{arith}
 use borrow.Author.Tests.{lt-ltb, le-ltb}
 use Rattle.paper.specs.Strings.{Dig}
 use Rattle.slots.specs.Nodes.{slot_count, level_count, meeting, node_at}

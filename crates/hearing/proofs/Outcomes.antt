@@ -1,25 +1,15 @@
 -- What is heard, and memory then, by the two tests: whether the reply is as awaited, and whether its line commits.
-use mathlib.Core.Path.{◌≡◌, refl, sym}
+use mathlib.Core.Path.{◌≡◌, refl}
 use mathlib.Core.Bool.{true, false}
 use mathlib.Core.List.{List}
 use Prim.Native.Nat.{ℕ}
-use borrow.Author.Tests.{ne_eqb}
 use Rattle.paper.specs.declared.Revision.{Revision}
 use Rattle.paper.specs.Strings.{Dig}
 use Rattle.asking.specs.declared.Talk.{Talk}
 use Rattle.asking.specs.Parts.{part_at}
 use Rattle.hearing.specs.declared.Heard.{Heard}
-use Rattle.hearing.specs.Awaiting.{as_awaited, refusal_in}
-use Rattle.hearing.specs.Hearing.{committing, heard_as, committed_leaves, committed_nodes, not_awaited, answered_by, committed_talk, accepts, leaves_heard, nodes_heard, heard_from}
-
-module _ (t : Talk) (k : ℕ) (c : Revision) (reply : List ℕ) where
-  pub none_told : refusal_in reply ≡ 0 → heard_as 3 0 false k c t ≡ not_awaited t k c reply
-  unfolding not_awaited
-  none_told e = rw e refl
-
-  pub some_told : (n : ℕ) → n ≡ refusal_in reply → (n ≡ 0 → ⊥) → heard_as 2 n false k c t ≡ not_awaited t k c reply
-  unfolding not_awaited
-  some_told n e h = let back : refusal_in reply ≡ n = sym e in rw (back, ne_eqb n 0 h) refl
+use Rattle.hearing.specs.Awaiting.{as_awaited}
+use Rattle.hearing.specs.Hearing.{committing, committed_leaves, committed_nodes, not_awaited, answered_by, committed_talk, accepts, leaves_heard, nodes_heard, heard_from}
 
 module _ (D : List ℕ → Dig) (t : Talk) (k : ℕ) (c : Revision) (reply leaves nodes : List ℕ) where
   -- the three that `hear` promises

@@ -1,10 +1,12 @@
 -- What the tablet awaits at each step: every byte of the reply that it can know, which is all but a memorandum; and what a reply line
 -- that is not that may be.
-use Rattle.std.specs.Prelude.{Bool, true, false, List, [], ◌∷◌, ◌++◌, ℕ, ◌+◌, ◌%◌, eqb, leb, length, get_or, take}
+use Rattle.std.specs.Prelude.{Bool, true, false, Option, Some, None, List, [], ◌∷◌, ◌++◌, ℕ, ◌+◌, ◌%◌, eqb, length, get_or, take}
 use Rattle.seqs.specs.Choose.{pick, both}
 use Rattle.seqs.specs.Bytes.{be64, same}
 use Rattle.hexadecimal.specs.Hex.{all_digits, bytes_of}
 use Rattle.paper.specs.Answers.{finding_of, finding_bytes}
+use Rattle.paper.specs.declared.Refusal.{Refusal}
+use Rattle.paper.specs.declared.Refusal.TheVariants.{Line, Kind, Frame, Zero, Malformed, Gap, Top, First, Second, Stale, Empty, Secret, Unopened, Opened, Room, Mass}
 use Rattle.edits.specs.declared.Edit.{Edit}
 use Rattle.asking.specs.declared.Talk.{Talk}
 use Rattle.asking.specs.declared.Part.{Part}
@@ -73,9 +75,35 @@ replies w l = both (is_line l) (fits_reply w (bytes_of l))
 abbrev pub as_awaited : Talk → List ℕ → Bool
 as_awaited t l = replies (awaited_at t) l
 
--- the number of the refusal that a line is, `00` and 1 to 16; else 0
-unfoldable pub refusal_in : List ℕ → ℕ
-refusal_in l =
-    let b = bytes_of l in
-    let n = get_or b 1 0 in
-    pick (both (both (is_line l) (eqb (length b) 2)) (both (eqb (get_or b 0 0) 0) (both (leb 1 n) (leb n 16)))) n 0
+-- the refusals by their numbers, 1 to 16; no other number has one
+abbrev pub refusals : List (Option Refusal)
+refusals =
+    None
+    ∷ Some Line
+    ∷ Some Kind
+    ∷ Some Frame
+    ∷ Some Zero
+    ∷ Some Malformed
+    ∷ Some Gap
+    ∷ Some Top
+    ∷ Some First
+    ∷ Some Second
+    ∷ Some Stale
+    ∷ Some Empty
+    ∷ Some Secret
+    ∷ Some Unopened
+    ∷ Some Opened
+    ∷ Some Room
+    ∷ Some Mass
+    ∷ []
+
+abbrev pub refusal_of : ℕ → Option Refusal
+refusal_of n = get_or refusals n None
+
+-- a line of two bytes, the first of them 0
+abbrev pub is_refusal : List ℕ → Bool
+is_refusal l = both (both (is_line l) (eqb (length (bytes_of l)) 2)) (eqb (get_or (bytes_of l) 0 0) 0)
+
+-- the refusal that a line is, `00` and its number
+unfoldable pub refusal_in : List ℕ → Option Refusal
+refusal_in l = pick (is_refusal l) (refusal_of (get_or (bytes_of l) 1 0)) None

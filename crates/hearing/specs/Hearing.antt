@@ -1,9 +1,10 @@
 -- What a reply leads to: the wish goes on, is done, or ends by a refusal or by a reply that is none; and memory as it changes where the
 -- module has accepted a committing line, and only there.
-use Rattle.std.specs.Prelude.{Bool, true, false, List, ℕ, ◌+◌, ◌-◌, eqb, ltb, length}
+use Rattle.std.specs.Prelude.{Bool, true, false, Option, Some, None, List, ℕ, ◌+◌, ◌-◌, ltb, length}
 use Rattle.seqs.specs.Choose.{pick, both}
 use Rattle.seqs.specs.Bytes.{digest_at}
 use Rattle.hexadecimal.specs.Hex.{bytes_of}
+use Rattle.paper.specs.declared.Refusal.{Refusal}
 use Rattle.paper.specs.declared.Revision.{Revision}
 use Rattle.paper.specs.Strings.{Dig}
 use Rattle.slots.specs.Nodes.{leaf_put}
@@ -18,6 +19,8 @@ use Rattle.asking.specs.declared.Part.{Part}
 use Rattle.asking.specs.declared.Part.TheVariants.{PathWhole, PathLeft, PathRight, PairUp, PathAbove, RaiseUp, SwapThem, PlaceIt, FirstOf, TurnIt, AdoptIt, SetIt, ClearIt, WitnessIt, AskLeaf, AskNone, Over}
 use Rattle.asking.specs.Parts.{part_at}
 use Rattle.asking.specs.Saying.{start_of}
+use Rattle.hearing.specs.declared.End.{End}
+use Rattle.hearing.specs.declared.End.TheVariants.{GoesOn, Done, Refused, Otherwise}
 use Rattle.hearing.specs.declared.Heard.{Heard}
 use Rattle.hearing.specs.Awaiting.{as_awaited, refusal_in}
 
@@ -115,16 +118,20 @@ gone_on t b =
 
 -- ── what is heard ──
 
-abbrev pub heard_as : (end number : ℕ) (changed : Bool) (count : ℕ) → Revision → Talk → Heard
-heard_as e n b k c t = record { end = e; number = n; changed = b; count = k; counter = c; talk = t }
+abbrev pub heard_as : End → (changed : Bool) (count : ℕ) → Revision → Talk → Heard
+heard_as e b k c t = record { end = e; changed = b; count = k; counter = c; talk = t }
 
--- a line that is not awaited
+-- a line that is not awaited: a refusal, or something else
+abbrev pub otherwise : Option Refusal → End
+otherwise (Some r) = Refused r
+otherwise None = Otherwise
+
 unfoldable pub not_awaited : Talk → (count : ℕ) → Revision → (reply : List ℕ) → Heard
-not_awaited t k c l = let n = refusal_in l in heard_as (pick (eqb n 0) 3 2) n false k c t
+not_awaited t k c l = heard_as (otherwise (refusal_in l)) false k c t
 
 -- as awaited, to a line that does not commit
 unfoldable pub answered_by : Part → Talk → (count : ℕ) → Revision → (reply : List ℕ) → Heard
-answered_by p t k c l = pick (concluding p) (heard_as 1 0 false k c t) (heard_as 0 0 false k c (gone_on t (bytes_of l)))
+answered_by p t k c l = pick (concluding p) (heard_as Done false k c t) (heard_as GoesOn false k c (gone_on t (bytes_of l)))
 
 module _ (t : Talk) (reply : List ℕ) where
   abbrev part : Part
@@ -143,8 +150,8 @@ module _ (D : List ℕ → Dig) where
   committed_talk t leaves nodes =
       let a = t.plan.after in
       pick (is_swap t.plan.script)
-      (heard_as 0 0 true a.count a.counter (start_of (dropping D leaves nodes (held_of a.count) a.counter t.plan.item)))
-      (heard_as 1 0 true a.count a.counter t)
+      (heard_as GoesOn true a.count a.counter (start_of (dropping D leaves nodes (held_of a.count) a.counter t.plan.item)))
+      (heard_as Done true a.count a.counter t)
 
   unfoldable pub nodes_heard : Talk → (reply nodes : List ℕ) → List ℕ
   nodes_heard t l nodes = pick (accepts t l) (committed_nodes D t.plan nodes) nodes

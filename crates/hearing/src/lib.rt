@@ -1,336 +1,226 @@
-// What a reply leads to. The tablet knows every byte of a reply but a memorandum; only where all of them are there does the wish go on,
-// and only where they answer a line that commits does memory change.
+//! What a reply leads to. The tablet knows every byte of a reply but a memorandum; only where all of them are there does the wish go
+//! on, and only where they answer a line that commits does memory change.
 #![tactic(auto)]
 
-ghost use Rattle.std.specs.Prelude.{◌≡◌, [], ◌∷◌, ◌++◌, ◌+◌, ◌-◌, ◌≤◌, length, take};
+ghost use Rattle.std.specs.Prelude.{◌≡◌, [], ◌∷◌, ◌+◌, ◌≤◌, length, take};
 ghost use Rattle.seqs.specs.Choose.{pick};
-ghost use Rattle.seqs.specs.Bytes.{be64, same};
+ghost use Rattle.seqs.specs.Bytes.{same};
 ghost use Rattle.sha256.specs.Hash.{sha256};
 ghost use Rattle.hexadecimal.specs.Hex.{bytes_of};
-ghost use Rattle.paper.specs.Strings.{nums, numbers, spread};
-ghost use Rattle.paper.specs.Answers.{finding_of, finding_bytes};
-ghost use Rattle.hearing.specs.Awaiting.{first_only, memo_reply, path_reply, plain_reply, awaited_as, is_line, replies, refusal_in};
+ghost use Rattle.paper.specs.Answers.{finding_bytes};
+ghost use Rattle.paper.specs.Numbers.{kind_number};
+ghost use Rattle.hearing.specs.Awaiting.{memo_reply, path_reply, awaited_as, is_line, fits_reply, replies, is_refusal, refusal_in};
 ghost use Rattle.hearing.specs.Hearing.{committing, concluding, of_two, is_swap, committed_leaves, committed_nodes, next_step, last_digest, gone_on, not_awaited, answered_by, committed_talk, leaves_heard, nodes_heard, heard_from};
-ghost use Rattle.hearing.specs.Knowing.{KnownAs, MoreThan, known_of};
+ghost use Rattle.hearing.specs.Knowing.{known_of};
 
 use asking::{Part, Talk};
+use buffers::Buffer;
 use edits::Edit;
-use paper::{Item, Record, Revision};
+use paper::{Finding, Kind, Refusal, Revision};
 use plans::{Plan, Script};
 
-// How the wish stands after a reply: whether it goes on (0), is done (1), was refused by the module (2) or got something else (3); the
-// refusal's number; whether memory changed; how many leaves it holds, and the counter; and what is kept for the next line.
+/// How the wish stands after a reply: it goes on, is done, was refused by the module, or got something else.
+#[derive(Clone, Copy)]
+pub enum End {
+    GoesOn,
+    Done,
+    Refused(Refusal),
+    Otherwise,
+}
+
+// Leaves and nodes, their count and the counter stay apart: docs/TRACE.md names `hear`, which answers for all of them whatever they are.
+// `changed` has no value beside it that it speaks of.
+
+/// What a reply led to: how the wish stands; whether memory changed; how many leaves it holds, and the counter; and what is kept for
+/// the next line.
 #[derive(Clone, Copy)]
 pub struct Heard {
-    pub end: u8,
-    pub number: u8,
+    pub end: End,
     pub changed: bool,
     pub count: usize,
     pub counter: Revision,
     pub talk: Talk,
 }
 
-// The bytes of a reply that are known, at the front of an array; how many; and whether a memorandum follows.
-#[derive(Clone, Copy)]
+/// The bytes of a reply that are known, and whether a memorandum follows.
+// A flag, as nothing is known of the memorandum that an Option could hold.
+#[derive(Drop)]
 struct Known {
-    bytes: [u8; 65],
-    n: usize,
+    bytes: Buffer<65>,
     memo: bool,
 }
 
 // ── what is awaited ──
 
-fn begun(first: u8, memo: bool) -> Known
-    ensures { KnownAs result (first_only first memo) }
+/// The first byte of what answers a line of a kind.
+#[tactic(auto, using(crate::proofs::Fronts::few_kinds))]
+fn accepted(kind: Kind) -> Buffer<65>
+    ensures { result ≡ (0x80 + kind_number kind) ∷ [] }
+{
+    Buffer::new().with(&[0x80 + kind.number()])
+}
+
+/// A memorandum.
+fn memo_reply(kind: Kind) -> Known
+    ensures { known_of result ≡ memo_reply (0x80 + kind_number kind) }
 {
     Known {
-        bytes: [first; 65],
-        n: 1,
-        memo: memo,
+        bytes: accepted(kind),
+        memo: true,
     }
 }
 
-// More bytes behind those that are known.
-fn behind(k: Known, more: &[u8]) -> Known
-    requires { k.n + length more.now ≤ 65 }
-    ensures { MoreThan result k more.now }
-{
-    let mut bytes = k.bytes;
-    let n = k.n;
-    fields::put(&mut bytes, n, more);
-    Known {
-        bytes: bytes,
-        n: n + more.len(),
-        memo: k.memo,
-    }
-}
-
-fn memo_reply(first: u8) -> Known
-    ensures { KnownAs result (memo_reply first) }
-{
-    begun(first, true)
-}
-
+/// What stands above a path, before and afterwards, and a memorandum of both.
 fn path_reply(e: Edit) -> Known
-    ensures { KnownAs result (path_reply e) }
+    ensures { known_of result ≡ path_reply e }
 {
-    let x = e.was;
-    let y = e.becomes;
-    let k = begun(0x81, true);
-    let j = behind(k, &x);
-    behind(j, &y)
-}
-
-fn adopt_reply(e: Edit) -> Known
-    ensures { KnownAs result (plain_reply (0x8b ∷ e.becomes)) }
-{
-    let y = e.becomes;
-    let k = begun(0x8b, false);
-    behind(k, &y)
-}
-
-fn change_reply(first: u8, e: Edit, c: Revision) -> Known
-    ensures { KnownAs result (plain_reply (first ∷ (e.becomes ++ be64 c.0))) }
-{
-    let y = e.becomes;
-    let n = fields::spelled(c.0);
-    let k = begun(first, false);
-    let j = behind(k, &y);
-    behind(j, &n)
-}
-
-fn none_reply(q: Item) -> Known
-    ensures { KnownAs result (plain_reply (0x8f ∷ be64 q.0)) }
-{
-    let n = fields::spelled(q.0);
-    let k = begun(0x8f, false);
-    behind(k, &n)
-}
-
-// A finding's number and its first item, as the reply to a question has them.
-fn found(number: u8, a: Item) -> Known
-    ensures { KnownAs result (plain_reply (0x8e ∷ (number ∷ be64 a.0))) }
-{
-    let f = [number];
-    let n = fields::spelled(a.0);
-    let k = begun(0x8e, false);
-    let j = behind(k, &f);
-    behind(j, &n)
-}
-
-fn recorded_reply(a: Item, e: Record) -> Known
-    ensures { KnownAs result (plain_reply (0x8e ∷ (1 ∷ (be64 a.0 ++ spread (nums (numbers e)))))) }
-{
-    let n = records::record_bytes(e);
-    let k = found(1, a);
-    behind(k, &n)
-}
-
-fn gap_reply(a: Item, b: Item) -> Known
-    ensures { KnownAs result (plain_reply (0x8e ∷ (3 ∷ (be64 a.0 ++ be64 b.0)))) }
-{
-    let n = fields::spelled(b.0);
-    let k = found(3, a);
-    behind(k, &n)
-}
-
-fn ask_reply(q: Item, a: Item, b: Item, e: Record) -> Known
-    ensures { KnownAs result (plain_reply (0x8e ∷ finding_bytes (finding_of q.0 a.0 b.0 e))) }
-{
-    if q.0 == a.0 {
-        if records::is_blank(e) {
-            return found(2, a);
-        }
-        return recorded_reply(a, e);
+    Known {
+        bytes: accepted(Kind::Path).with(&e.was).with(&e.becomes),
+        memo: true,
     }
-    gap_reply(a, b)
 }
 
-// Of the path to the root, of those to the two halves.
-fn root_path(t: Talk) -> Known
-    ensures { KnownAs result (awaited_as t Part.PathWhole) }
+/// A finding.
+fn found(finding: Finding) -> Buffer<65>
+    ensures { result ≡ 0x8e ∷ finding_bytes finding }
 {
-    let p = t.plan;
-    let script = p.script;
-    let c = p.change;
-    let e = asking::sent_edit(script, c.root);
-    path_reply(e)
+    let reply = accepted(Kind::Ask);
+    match finding {
+        Finding::Recorded(a, r) => reply
+            .with(&[1])
+            .with(&fields::spelled(a.0))
+            .with(&records::record_bytes(r)),
+        Finding::Listed(a) => reply.with(&[2]).with(&fields::spelled(a.0)),
+        Finding::Gap(a, b) => reply
+            .with(&[3])
+            .with(&fields::spelled(a.0))
+            .with(&fields::spelled(b.0)),
+    }
 }
 
-fn left_path(t: Talk) -> Known
-    ensures { KnownAs result (awaited_as t Part.PathLeft) }
-{
-    let p = t.plan;
-    let script = p.script;
-    let c = p.change;
-    let e = asking::sent_edit(script, c.y);
-    path_reply(e)
-}
-
-fn right_path(t: Talk) -> Known
-    ensures { KnownAs result (awaited_as t Part.PathRight) }
-{
-    let p = t.plan;
-    let script = p.script;
-    let c = p.change;
-    let e = asking::sent_edit(script, c.z);
-    path_reply(e)
-}
-
-fn adopted(t: Talk) -> Known
-    ensures { KnownAs result (awaited_as t Part.AdoptIt) }
-{
-    let p = t.plan;
-    let c = p.change;
-    adopt_reply(c.root)
-}
-
-// Of a set, of a clear.
-fn rewritten(first: u8, t: Talk) -> Known
-    ensures { KnownAs result (plain_reply (first ∷ (t.plan.change.root.becomes ++ be64 t.plan.after.counter.0))) }
-{
-    let p = t.plan;
-    let c = p.change;
-    let a = p.after;
-    change_reply(first, c.root, a.counter)
-}
-
-fn asked(t: Talk) -> Known
-    ensures { KnownAs result (awaited_as t Part.AskLeaf) }
-{
-    let p = t.plan;
-    let here = p.here;
-    ask_reply(p.item, here.item, here.next, here.entry)
-}
-
-fn unlisted(t: Talk) -> Known
-    ensures { KnownAs result (awaited_as t Part.AskNone) }
-{
-    let p = t.plan;
-    none_reply(p.item)
-}
-
+/// What is awaited for a line.
 fn awaited(part: Part, t: Talk) -> Known
-    ensures { KnownAs result (awaited_as t part) }
+    ensures { known_of result ≡ awaited_as t part }
 {
+    let Plan {
+        script,
+        item,
+        here,
+        change,
+        after,
+        ..
+    } = t.plan;
     match part {
-        Part::PathWhole => root_path(t),
-        Part::PathLeft => left_path(t),
-        Part::PathRight => right_path(t),
-        Part::PairUp => memo_reply(0x84),
-        Part::PathAbove => root_path(t),
-        Part::RaiseUp => memo_reply(0x85),
-        Part::SwapThem => memo_reply(0x86),
-        Part::PlaceIt => memo_reply(0x88),
-        Part::FirstOf => memo_reply(0x87),
-        Part::TurnIt => memo_reply(0x89),
-        Part::AdoptIt => adopted(t),
-        Part::SetIt => rewritten(0x8c, t),
-        Part::ClearIt => rewritten(0x8d, t),
-        Part::WitnessIt => memo_reply(0x82),
-        Part::AskLeaf => asked(t),
-        Part::AskNone => unlisted(t),
-        Part::Over => unlisted(t),
+        Part::PathWhole | Part::PathAbove => path_reply(asking::sent_edit(script, change.root)),
+        Part::PathLeft => path_reply(asking::sent_edit(script, change.y)),
+        Part::PathRight => path_reply(asking::sent_edit(script, change.z)),
+        Part::PairUp => memo_reply(Kind::Pair),
+        Part::RaiseUp => memo_reply(Kind::Raise),
+        Part::SwapThem => memo_reply(Kind::Swap),
+        Part::PlaceIt => memo_reply(Kind::Place),
+        Part::FirstOf => memo_reply(Kind::First),
+        Part::TurnIt => memo_reply(Kind::Turn),
+        Part::WitnessIt => memo_reply(Kind::Witness),
+        Part::AdoptIt => Known {
+            bytes: accepted(Kind::Adopt).with(&change.root.becomes),
+            memo: false,
+        },
+        Part::SetIt => Known {
+            bytes: accepted(Kind::Set)
+                .with(&change.root.becomes)
+                .with(&fields::spelled(after.counter.0)),
+            memo: false,
+        },
+        Part::ClearIt => Known {
+            bytes: accepted(Kind::Clear)
+                .with(&change.root.becomes)
+                .with(&fields::spelled(after.counter.0)),
+            memo: false,
+        },
+        Part::AskLeaf => Known {
+            bytes: found(records::finding(item, here.item, here.next, here.entry)),
+            memo: false,
+        },
+        Part::AskNone | Part::Over => Known {
+            bytes: accepted(Kind::AskNone).with(&fields::spelled(item.0)),
+            memo: false,
+        },
     }
 }
 
 // ── a reply beside it ──
 
-// Whether the bytes that are known stand at the reply's front.
-fn same_front(k: Known, reply: &[u8]) -> bool
-    requires { (k.n ≤ 65) × (k.n ≤ length (bytes_of reply.now)) }
-    ensures { result ≡ same (take k.n (bytes_of reply.now)) (take k.n k.bytes) }
+/// Whether the bytes that are known stand at the reply's front.
+fn same_front(known: &[u8], reply: &[u8]) -> bool
+    requires { length known.now ≤ length (bytes_of reply.now) }
+    ensures { result ≡ same (take (length known.now) (bytes_of reply.now)) known.now }
 {
-    let bytes = k.bytes;
-    let n = k.n;
-    let mut i: usize = 0;
-    while i < n {
-        if hexadecimal::byte_at(reply, i) != bytes[i] {
+    for (i, &byte) in known.iter().enumerate() {
+        if hexadecimal::byte_at(reply, i) != byte {
             return false;
         }
-        i += 1;
     }
     true
-}
-
-fn length_of(k: Known) -> usize
-    requires { k.n ≤ 65 }
-    ensures { result ≡ k.n + pick k.memo 32 0 }
-{
-    if k.memo {
-        return k.n + 32;
-    }
-    k.n
 }
 
 fn is_line(reply: &[u8]) -> bool
     ensures { result ≡ is_line reply.now }
 {
-    if reply.len() % 2 == 0 {
-        return hexadecimal::all_digits(reply);
-    }
-    false
+    reply.len() % 2 == 0 && hexadecimal::all_digits(reply)
 }
 
-fn fits(k: Known, reply: &[u8]) -> bool
-    requires { k.n ≤ 65 }
-    ensures { result ≡ replies (known_of k) reply.now }
+/// How many bytes the reply has.
+fn length_of(k: &Known) -> usize
+    ensures { result ≡ length k.now.bytes + pick k.now.memo 32 0 }
 {
-    if !is_line(reply) {
-        return false;
-    }
-    let n = length_of(k);
-    if reply.len() / 2 != n {
-        return false;
-    }
-    same_front(k, reply)
+    let known = k.bytes.as_slice().len();
+    if k.memo { known + 32 } else { known }
 }
 
-// The number of the refusal that a line is, or 0.
-fn refusal_in(reply: &[u8]) -> u8
+/// Whether a line's bytes are those that are awaited.
+#[tactic(auto, using(hexadecimal::proofs::Laws::bytes_length), unfolding(crate::specs::Awaiting::fits_reply))]
+fn stands_in(k: &Known, reply: &[u8]) -> bool
+    ensures { result ≡ fits_reply (known_of k.now) (bytes_of reply.now) }
+{
+    reply.len() / 2 == length_of(k) && same_front(k.bytes.as_slice(), reply)
+}
+
+#[tactic(auto, unfolding(crate::specs::Awaiting::replies))]
+fn fits(k: &Known, reply: &[u8]) -> bool
+    ensures { result ≡ replies (known_of k.now) reply.now }
+{
+    is_line(reply) && stands_in(k, reply)
+}
+
+/// Whether it is a line of two bytes, the first of them 0.
+#[tactic(auto, using(hexadecimal::proofs::Laws::bytes_length))]
+fn is_refusal(reply: &[u8]) -> bool
+    ensures { result ≡ is_refusal reply.now }
+{
+    is_line(reply) && reply.len() / 2 == 2 && hexadecimal::byte_at(reply, 0) == 0
+}
+
+/// The refusal that a line is.
+#[tactic(auto, using(crate::proofs::Fronts::refusal_listed), unfolding(crate::specs::Awaiting::refusal_in))]
+fn refusal_in(reply: &[u8]) -> Option<Refusal>
     ensures { result ≡ refusal_in reply.now }
 {
-    if !is_line(reply) {
-        return 0;
+    if !is_refusal(reply) {
+        return None;
     }
-    if reply.len() / 2 != 2 {
-        return 0;
-    }
-    if hexadecimal::byte_at(reply, 0) != 0 {
-        return 0;
-    }
-    let n = hexadecimal::byte_at(reply, 1);
-    if n < 1 {
-        return 0;
-    }
-    if 16 < n {
-        return 0;
-    }
-    n
+    Refusal::try_from(hexadecimal::byte_at(reply, 1)).ok()
 }
 
-// The memorandum at a reply's end: its last 32 bytes.
+/// The memorandum at a reply's end: its last 32 bytes.
 fn memo_in(reply: &[u8]) -> [u8; 32]
     ensures { result ≡ last_digest (bytes_of reply.now) }
 {
-    let mut out = [0u8; 32];
-    let n = reply.len() / 2;
-    let at = past(n, 32);
-    let mut i: usize = 0;
-    while i < 32 {
+    let at = (reply.len() / 2).saturating_sub(32);
+    let mut out = [0; 32];
+    for i in 0..32 {
         out[i] = hexadecimal::byte_at(reply, at + i);
-        i += 1;
     }
     out
-}
-
-fn past(n: usize, k: usize) -> usize
-    ensures { result ≡ n - k }
-{
-    if n < k {
-        return 0;
-    }
-    n - k
 }
 
 // ── which lines change memory, and which are the last ──
@@ -338,131 +228,64 @@ fn past(n: usize, k: usize) -> usize
 fn commits(part: Part) -> bool
     ensures { result ≡ committing part }
 {
-    match part {
-        Part::PathWhole => false,
-        Part::PathLeft => false,
-        Part::PathRight => false,
-        Part::PairUp => false,
-        Part::PathAbove => false,
-        Part::RaiseUp => false,
-        Part::SwapThem => false,
-        Part::PlaceIt => false,
-        Part::FirstOf => false,
-        Part::TurnIt => false,
-        Part::AdoptIt => true,
-        Part::SetIt => true,
-        Part::ClearIt => true,
-        Part::WitnessIt => false,
-        Part::AskLeaf => false,
-        Part::AskNone => false,
-        Part::Over => false,
-    }
+    matches!(part, Part::AdoptIt | Part::SetIt | Part::ClearIt)
 }
 
 fn concludes(part: Part) -> bool
     ensures { result ≡ concluding part }
 {
-    match part {
-        Part::PathWhole => false,
-        Part::PathLeft => false,
-        Part::PathRight => false,
-        Part::PairUp => false,
-        Part::PathAbove => false,
-        Part::RaiseUp => false,
-        Part::SwapThem => false,
-        Part::PlaceIt => false,
-        Part::FirstOf => false,
-        Part::TurnIt => false,
-        Part::AdoptIt => false,
-        Part::SetIt => false,
-        Part::ClearIt => false,
-        Part::WitnessIt => false,
-        Part::AskLeaf => true,
-        Part::AskNone => true,
-        Part::Over => true,
-    }
+    matches!(part, Part::AskLeaf | Part::AskNone | Part::Over)
 }
 
 fn of_two(script: Script) -> bool
     ensures { result ≡ of_two script }
 {
-    match script {
-        Script::AskOfNone => false,
-        Script::Asking => false,
-        Script::Setting => false,
-        Script::Clearing => false,
-        Script::Beginning => false,
-        Script::Inserting => true,
-        Script::Swapping => true,
-        Script::Dropping => true,
-        Script::Emptying => false,
-    }
+    matches!(
+        script,
+        Script::Inserting | Script::Swapping | Script::Dropping
+    )
 }
 
 fn is_swap(script: Script) -> bool
     ensures { result ≡ is_swap script }
 {
-    match script {
-        Script::AskOfNone => false,
-        Script::Asking => false,
-        Script::Setting => false,
-        Script::Clearing => false,
-        Script::Beginning => false,
-        Script::Inserting => false,
-        Script::Swapping => true,
-        Script::Dropping => false,
-        Script::Emptying => false,
-    }
+    matches!(script, Script::Swapping)
 }
 
 // ── memory ──
 
+#[tactic(auto, unfolding(crate::specs::Hearing::committed_leaves))]
 fn commit_leaves(p: Plan, leaves: &mut [u64])
     ensures { leaves.new ≡ committed_leaves p leaves.old }
 {
-    let script = p.script;
-    let c = p.change;
-    let a = p.after;
-    rows::put_row(leaves, c.left, a.left);
-    if of_two(script) {
-        rows::put_row(leaves, c.right, a.right);
+    rows::put_row(leaves, p.change.left, p.after.left);
+    if of_two(p.script) {
+        rows::put_row(leaves, p.change.right, p.after.right);
     }
 }
 
+#[tactic(auto, unfolding(crate::specs::Hearing::committed_nodes))]
 fn commit_nodes(p: Plan, nodes: &mut [u8])
     ensures { nodes.new ≡ committed_nodes sha256 p nodes.old }
 {
-    let script = p.script;
-    let c = p.change;
-    let a = c.a;
-    let b = c.b;
-    let x = a.becomes;
-    let w = b.becomes;
-    slots::put_leaf(nodes, c.left, x);
-    if of_two(script) {
-        slots::put_leaf(nodes, c.right, w);
+    slots::put_leaf(nodes, p.change.left, p.change.a.becomes);
+    if of_two(p.script) {
+        slots::put_leaf(nodes, p.change.right, p.change.b.becomes);
     }
 }
 
 // ── what is heard ──
 
+#[tactic(auto, unfolding(crate::specs::Hearing::not_awaited))]
 fn not_awaited(t: Talk, count: usize, counter: Revision, reply: &[u8]) -> Heard
     ensures { result ≡ not_awaited t count counter reply.now }
 {
-    let n = refusal_in(reply);
-    if n == 0 {
-        return Heard {
-            end: 3,
-            number: 0,
-            changed: false,
-            count,
-            counter,
-            talk: t,
-        };
-    }
+    let end = match refusal_in(reply) {
+        Some(refusal) => End::Refused(refusal),
+        None => End::Otherwise,
+    };
     Heard {
-        end: 2,
-        number: n,
+        end,
         changed: false,
         count,
         counter,
@@ -470,30 +293,29 @@ fn not_awaited(t: Talk, count: usize, counter: Revision, reply: &[u8]) -> Heard
     }
 }
 
-// Once memory has changed: a remove goes on behind its swap.
+/// Once memory has changed: a remove goes on behind its swap.
+#[tactic(auto, unfolding(crate::specs::Hearing::committed_talk))]
 fn committed(t: Talk, leaves: &[u64], nodes: &[u8]) -> Heard
     ensures { result ≡ committed_talk sha256 t leaves.now nodes.now }
 {
-    let p = t.plan;
-    let script = p.script;
-    let a = p.after;
-    let count = a.count;
-    let counter = a.counter;
+    let Plan {
+        script,
+        item,
+        after,
+        ..
+    } = t.plan;
+    let (count, counter) = (after.count, after.counter);
     if is_swap(script) {
-        let plan = plans::drop_plan(p.item, count, counter, leaves, nodes);
-        let talk = asking::start(plan);
         return Heard {
-            end: 0,
-            number: 0,
+            end: End::GoesOn,
             changed: true,
             count,
             counter,
-            talk,
+            talk: asking::start(plans::drop_plan(item, count, counter, leaves, nodes)),
         };
     }
     Heard {
-        end: 1,
-        number: 0,
+        end: End::Done,
         changed: true,
         count,
         counter,
@@ -501,56 +323,50 @@ fn committed(t: Talk, leaves: &[u64], nodes: &[u8]) -> Heard
     }
 }
 
+#[tactic(auto, unfolding(crate::specs::Hearing::next_step))]
 fn next_step(n: u8) -> u8
     ensures { result ≡ next_step n }
 {
-    if n < 255 {
-        return n + 1;
-    }
-    n
+    n.saturating_add(1)
 }
 
 fn gone_on(t: Talk, reply: &[u8]) -> Talk
     ensures { result ≡ gone_on t (bytes_of reply.now) }
 {
-    let plan = t.plan;
     let older = t.memo;
-    let step = next_step(t.step);
     let memo = memo_in(reply);
     Talk {
-        plan,
-        step,
+        step: next_step(t.step),
         older,
         memo,
+        ..t
     }
 }
 
-// A reply that is as awaited, to a line that does not commit.
+/// A reply that is as awaited, to a line that does not commit.
+#[tactic(auto, unfolding(crate::specs::Hearing::answered_by))]
 fn answered(part: Part, t: Talk, count: usize, counter: Revision, reply: &[u8]) -> Heard
     ensures { result ≡ answered_by part t count counter reply.now }
 {
     if concludes(part) {
         return Heard {
-            end: 1,
-            number: 0,
+            end: End::Done,
             changed: false,
             count,
             counter,
             talk: t,
         };
     }
-    let talk = gone_on(t, reply);
     Heard {
-        end: 0,
-        number: 0,
+        end: End::GoesOn,
         changed: false,
         count,
         counter,
-        talk,
+        talk: gone_on(t, reply),
     }
 }
 
-// What a reply line, given without its 0A, leads to; memory changes where it accepts a line that commits.
+/// What a reply line, given without its 0A, leads to; memory changes where it accepts a line that commits.
 pub fn hear(
     t: Talk,
     count: usize,
@@ -563,17 +379,15 @@ pub fn hear(
     ensures leaves_after { leaves.new ≡ leaves_heard t reply.now leaves.old }
     ensures nodes_after { nodes.new ≡ nodes_heard sha256 t reply.now nodes.old }
 {
-    let p = t.plan;
-    let script = p.script;
-    let part = asking::part_at(script, t.step);
-    let k = awaited(part, t);
-    if !fits(k, reply) {
+    let part = asking::part_at(t.plan.script, t.step);
+    let known = awaited(part, t);
+    if !fits(&known, reply) {
         return not_awaited(t, count, counter, reply);
     }
     if !commits(part) {
         return answered(part, t, count, counter, reply);
     }
-    commit_leaves(p, leaves);
-    commit_nodes(p, nodes);
+    commit_leaves(t.plan, leaves);
+    commit_nodes(t.plan, nodes);
     committed(t, leaves, nodes)
 }

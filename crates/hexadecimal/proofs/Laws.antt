@@ -4,13 +4,13 @@ use mathlib.Core.Bool.{Bool, true, false}
 use mathlib.Core.List.{List, [], ◌∷◌, ◌++◌, append-nil}
 use Prim.Native.Nat.{ℕ, zero, suc, ◌+◌, ◌-◌, ◌*◌, ◌/◌, ◌%◌, ◌<◌, ◌≤◌}
 use native.Mathlib.Nat.{not-suc-le-zero, le_of_suc-le-suc}
-use native.Mathlib.Numerals.{add-one}
 use native.Mathlib.Omega.{arith}
 use lib.Dec.{leb}
-use lib.ListN.{length, length-append, get_or, drop, drop_of_length-le, get_or-eq_default}
-use lib.Seq.{drop-cons, get_or_at}
+use Rattle.std.specs.List.{list_all}
+use lib.ListN.{length, length-append, get_or, get_or-eq_default}
+use lib.Seq.{get_or_at}
 use borrow.Author.Tests.{le-leb, lt-leb, leb-true, leb-false}
-use Rattle.seqs.specs.Choose.{both, both_true}
+use Rattle.seqs.specs.Choose.{both, both_true, both_and}
 use Rattle.seqs.specs.Bytes.{Bytes}
 use Rattle.hexadecimal.specs.Hex.{is_digit, value_of, digit_of, all_digits, bytes_of, digits_of, line_of}
 
@@ -171,10 +171,7 @@ pub line_last : (f : List ℕ) → get_or (line_of f) (2 * length f) 0 ≡ 0x0a
 unfolding line_of
 line_last f = get_or_at (digits_of f) 0x0a [] 0 (2 * length f) (digits_length f)
 
--- one more digit passed
-pub all_step : (l : List ℕ) (i : ℕ) (t : Bool) → i < length l → is_digit (get_or l i 0) ≡ t
-    → all_digits (drop i l) ≡ both t (all_digits (drop (i + 1) l))
-all_step l i t h e = rw (drop-cons l i 0 h, add-one, e)
-
-pub all_end : (l : List ℕ) (i : ℕ) → length l ≤ i → all_digits (drop i l) ≡ true
-all_end l i h = rw (drop_of_length-le l h)
+-- the test of a whole line as the library's
+pub all_same : (l : List ℕ) → list_all is_digit l ≡ all_digits l
+all_same [] = refl
+all_same (c ∷ l) = both_and (is_digit c) _ ∙ ap (both (is_digit c)) (all_same l)

@@ -21,16 +21,15 @@ use Rattle.groves.proofs.Groves.{OnLevel, kept_node}
 use Rattle.groves.proofs.Puts.{empty_kept}
 use Rattle.ringed.specs.Ringed.{leaves_by, Closed}
 use Rattle.ringed.proofs.Pairs.{closed_if, closed_unbroken, no_break_lem, unbroken_first}
-use Rattle.store.specs.declared.Judged.{Judged}
-use Rattle.store.specs.declared.Judged.TheVariants as J
+use Rattle.std.specs.Prelude.{Result, Ok, Err}
+use Rattle.store.specs.declared.Fault.{Fault}
 use Rattle.store.specs.Lines.{may_stand}
 use Rattle.store.specs.Texts.{TextRead, text_read, text_of}
 use Rattle.store.specs.RoundTrip.{Storable}
 use Rattle.store.specs.Judging.{judged}
 use Rattle.store.proofs.RoundTrip.{round_trips}
 use Rattle.store.proofs.Judging.{RingText, ring_text, text_ring}
-use Rattle.memory.specs.declared.Loaded.{Loaded}
-use Rattle.memory.specs.declared.Loaded.TheVariants.{Held, Stopped, TooMany, Broken, NoRoom}
+use Rattle.memory.specs.declared.LoadError.{LoadError}
 use Rattle.memory.specs.Memory.{leaves_put, has_room, loaded_by, loaded_as, leaves_after, nodes_after}
 use Rattle.memory.proofs.Puts.{leaves_length}
 use Rattle.holding.specs.Holding.{Holds, loaded_leaves, loaded_nodes, saved_text, LoadHolds, Refusal, RefusalKeeps, GoodStore, LoadsJust, LoadedSaves, HeldSaves}
@@ -71,21 +70,19 @@ module _ (leaves nodes : List ℕ) where
       record { numbers = leb-true 6144 (length leaves) p.0; bytes = eqb-true (length nodes) 65536 p.1 }
 
   -- a text is held where it is a ring and there is room
-  held_ring : (t : List ℕ) (k : ℕ) → loaded_as t leaves nodes ≡ Held k → RingText t 1024 k × (has_room leaves nodes ≡ true)
+  held_ring : (t : List ℕ) (k : ℕ) → loaded_as t leaves nodes ≡ Ok k → RingText t 1024 k × (has_room leaves nodes ≡ true)
   unfolding loaded_as
   held_ring t k e = by_tests (judged t 1024) (has_room leaves nodes) refl refl e
     where
-      by_tests : (j : Judged) (b : Bool) → judged t 1024 ≡ j → has_room leaves nodes ≡ b → loaded_by j b ≡ Held k
+      by_tests : (j : Result ℕ Fault) (b : Bool) → judged t 1024 ≡ j → has_room leaves nodes ≡ b → loaded_by j b ≡ Ok k
           → RingText t 1024 k × (has_room leaves nodes ≡ true)
-      by_tests (J.Ring n) true f g e =
+      by_tests (Ok n) true f g e =
           let same : n ≡ k = cc in
           (subst (RingText t 1024) same (ring_text t 1024 n f), g)
-      by_tests (J.Ring n) false f g e = absurd (true≢false cc)
-      by_tests (J.Stopped i) b f g e = absurd (true≢false cc)
-      by_tests (J.TooMany n) b f g e = absurd (true≢false cc)
-      by_tests (J.Broken i j) b f g e = absurd (true≢false cc)
+      by_tests (Ok n) false f g e = absurd (true≢false cc)
+      by_tests (Err x) b f g e = absurd (true≢false cc)
 
-  ring_held : (t : List ℕ) (k : ℕ) → RingText t 1024 k → has_room leaves nodes ≡ true → loaded_as t leaves nodes ≡ Held k
+  ring_held : (t : List ℕ) (k : ℕ) → RingText t 1024 k → has_room leaves nodes ≡ true → loaded_as t leaves nodes ≡ Ok k
   unfolding loaded_as
   ring_held t k r e = rw (text_ring t 1024 k r, e)
 
@@ -102,7 +99,7 @@ load_holds t leaves nodes k e =
     let room = has_room_lem leaves nodes held.1 in
     let rs = (text_read t).rows in
     let size : length rs ≡ k = sym ring.size in
-    subst (λ (l : Loaded). Holds sha256 rs (leaves_after l rs leaves) (nodes_after sha256 l rs nodes) k) (sym e)
+    subst (λ (l : Result ℕ LoadError). Holds sha256 rs (leaves_after l rs leaves) (nodes_after sha256 l rs nodes) k) (sym e)
     (record {
       size = size;
       few = ring.few;
@@ -120,13 +117,10 @@ load_holds t leaves nodes k e =
 pub refusal_keeps : RefusalKeeps
 refusal_keeps t leaves nodes = by_answer (loaded_as t leaves nodes)
   where
-    by_answer : (l : Loaded) → Refusal l
+    by_answer : (l : Result ℕ LoadError) → Refusal l
         → (leaves_after l (text_read t).rows leaves ≡ leaves) × (nodes_after sha256 l (text_read t).rows nodes ≡ nodes)
-    by_answer (Held k) f = absurd f
-    by_answer (Stopped i) f = (refl, refl)
-    by_answer (TooMany n) f = (refl, refl)
-    by_answer (Broken i j) f = (refl, refl)
-    by_answer NoRoom f = (refl, refl)
+    by_answer (Ok k) f = absurd f
+    by_answer (Err e) f = (refl, refl)
 
 good_ring : (t : List ℕ) (k : ℕ) → GoodStore t k → RingText t 1024 k
 good_ring t k g =

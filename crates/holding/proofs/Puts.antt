@@ -7,14 +7,14 @@ use lib.ListN.{length, length-append}
 use Rattle.paper.specs.Strings.{Dig, record_hash}
 use Rattle.rings.specs.Trees.{TreeLeaf, tip}
 use Rattle.rows.specs.declared.Row.{Row}
-use Rattle.rows.specs.Rows.{row_numbers, row_at, rows_from, row_put}
+use Rattle.rows.specs.Rows.{row_numbers, row_at, row_digest, rows_from, row_put}
 use Rattle.rows.proofs.Puts.{row_there, row_else}
 use Rattle.slots.specs.Nodes.{leaf_put}
 use Rattle.groves.specs.Grove.{slots_of, Kept}
 use Rattle.groves.proofs.Stored.{append_slot, kept_same}
 use Rattle.groves.proofs.Puts.{put_kept}
 use Rattle.ringed.specs.Ringed.{leaf_by, leaves_by}
-use Rattle.memory.specs.Memory.{row_digest, leaves_put, digests_put}
+use Rattle.memory.specs.Memory.{leaves_put, digests_put}
 use Rattle.memory.proofs.Puts.{row_length}
 
 -- ── numbers ──

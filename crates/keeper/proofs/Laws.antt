@@ -1,39 +1,26 @@
 -- Bytes that stand over the front of a buffer, and the part of it that is written out.
-use mathlib.Core.Path.{◌≡◌, sym, ap, ◌∙◌}
-use mathlib.Core.List.{List}
-use Prim.Native.Nat.{ℕ, ◌-◌, ◌≤◌}
-use native.Mathlib.Omega.{arith}
-use native.Mathlib.Decide.{dec_le}
-use borrow.Author.Tests.{le-leb, lt-leb}
-use lib.ListN.{length, take, drop}
-use lib.Seq.{take_at, take-length}
+use Rattle.std.proofs.Common.{◌≡◌, refl, ap, ◌∙◌, ℕ, ◌≤◌, Option, Some, None, Ok, List, length, take, arith, Bool, true, false}
+use borrow.Author.Tests.{leb-true}
+use Rattle.std.specs.Option.{ok_or}
+use lib.Dec.{leb}
+use lib.ListN.{drop}
+use lib.Seq.{take_at}
+use Rattle.seqs.specs.Choose.{pick}
 use Rattle.seqs.specs.Over.{written, written_fits}
 use Rattle.asking.specs.Saying.{fitting_length}
 
-pub saved_front : (t d e : List ℕ) (n : ℕ) → length t ≡ n → n ≤ length d → e ≡ written t d → take (n - 0) (drop 0 e) ≡ t
-saved_front t d e n long room is =
-    let same : n - 0 ≡ n = omega arith in
-    ap (λ (k : ℕ). take k e) same ∙ ap (take n) (is ∙ written_fits t d n long room) ∙ take_at t (drop n d) n long
+pub saved_front : (t d e : List ℕ) (n : ℕ) → length t ≡ n → n ≤ length d → e ≡ written t d → take n e ≡ t
+saved_front t d e n long room is = ap (take n) (is ∙ written_fits t d n long room) ∙ take_at t (drop n d) n long
 
-pub fitting_le : (s : List ℕ) (room : ℕ) → fitting_length s room ≤ room
+-- a line that fits: how long it is, and that it does
+pub fitting : (s : List ℕ) (room n : ℕ) → fitting_length s room ≡ Some n → (length s ≡ n) × (n ≤ room)
 unfolding fitting_length
-fitting_le s room =
-    elim (dec_le (length s) room) [
-      | yes h ↦ rw (le-leb (length s) room h) h
-      | no h ↦ rw (lt-leb (length s) room (omega arith)) (omega arith)
-    ]
+fitting s room n e = by_test (leb (length s) room) refl e
+  where
+    by_test : (t : Bool) → leb (length s) room ≡ t → pick t (Some (length s)) None ≡ Some n → (length s ≡ n) × (n ≤ room)
+    by_test true h e = let same : length s ≡ n = cc in (same, omega (arith, same, leb-true (length s) room h))
+    by_test false h e = absurd (cc)
 
-pub said_front : (s d e : List ℕ) (n : ℕ) → n ≡ fitting_length s (length d) → e ≡ written s d
-    → take (n - 0) (drop 0 e) ≡ take (fitting_length s (length d)) s
-unfolding fitting_length
-said_front s d e n long is =
-    elim (dec_le (length s) (length d)) [
-      | yes h ↦ (
-          let l : n ≡ length s = long ∙ rw (le-leb (length s) (length d) h) in
-          saved_front s d e n (sym l) (omega (arith, l, h)) is ∙ sym (rw (le-leb (length s) (length d) h) (take-length s))
-          )
-      | no h ↦ (
-          let l : n ≡ 0 = long ∙ rw (lt-leb (length s) (length d) (omega arith)) in
-          rw (lt-leb (length s) (length d) (omega arith)) (ap (λ (k : ℕ). take (k - 0) e) l)
-          )
-    ]
+pub ok_some : {X : Type 0} (o : Option ℕ) (x : X) (n : ℕ) → ok_or o x ≡ Ok n → o ≡ Some n
+ok_some (Some m) x n e = let same : m ≡ n = cc in ap Some same
+ok_some None x n e = absurd (cc)

@@ -1,170 +1,115 @@
-// The store as the program starts: read whole, judged, and its leaves put into memory; or told what is wrong with which line.
-ghost use Rattle.std.specs.Prelude.{◌≡◌, ◌≤◌, length};
-ghost use Rattle.keeper.specs.declared.loading.Opened.TheVariants.{Shut};
+//! The store as the program starts: read whole, judged, and its leaves put into memory; or what is wrong with which line.
+ghost use Rattle.std.specs.Prelude.{◌≤◌, length, IfOk, IsErr};
 ghost use Rattle.keeper.specs.Opening.{OpenedAs};
 
-use memory::Loaded;
+use memory::LoadError;
 use std::fs::File;
-use std::io::{ErrorKind, Print, Read};
+use std::io::{self, ErrorKind, Print, Read};
 use std::str;
-use store::Lines;
+use store::Fault;
 
-// So many leaves are held, or the store could not be loaded, which was told.
+/// Why the store could not be loaded: it cannot be read, has too many lines, or a line or a pair of lines is wrong.
 #[derive(Clone, Copy)]
-pub enum Opened {
-    Holding(usize),
-    Shut,
+pub enum Shut {
+    Unreadable,
+    Many,
+    Line(usize),
+    Pair(usize, usize),
 }
 
-// So many bytes of a file were read, up to its end or the buffer's; or a read failed.
-#[derive(Clone, Copy)]
-struct Filled {
-    n: usize,
-    failed: bool,
+/// Tells why. A line's number counts from 1.
+pub(crate) fn tell(rt: &HostRuntime, shut: Shut) {
+    let _ = match shut {
+        Shut::Unreadable => rt.write_all(b"# store cannot be read\n"),
+        Shut::Many => rt.write_all(b"# store has more than 1024 lines\n"),
+        Shut::Line(i) => {
+            let line = i.saturating_add(1);
+            println!(rt; "# store line {line} cannot be read")
+        }
+        Shut::Pair(i, j) => {
+            let first = i.saturating_add(1);
+            let second = j.saturating_add(1);
+            println!(rt; "# store lines {first} and {second} break the ring")
+        }
+    };
 }
 
-// ── what is told ──
-
-fn tell_unreadable(rt: &HostRuntime) -> Opened
-    ensures { result ≡ Shut }
-{
-    let _ = rt.write_all(b"# store cannot be read\n");
-    Opened::Shut
-}
-
-fn tell_many(rt: &HostRuntime) -> Opened
-    ensures { result ≡ Shut }
-{
-    let _ = rt.write_all(b"# store has more than 1024 lines\n");
-    Opened::Shut
-}
-
-// A line's number counts from 1.
-fn plus(a: usize, b: usize) -> usize {
-    if usize::MAX - a < b {
-        usize::MAX
-    } else {
-        a + b
-    }
-}
-
-fn tell_line(rt: &HostRuntime, i: usize) -> Opened
-    ensures { result ≡ Shut }
-{
-    let line = plus(i, 1);
-    let _ = println!(rt; "# store line {line} cannot be read");
-    Opened::Shut
-}
-
-fn tell_pair(rt: &HostRuntime, i: usize, j: usize) -> Opened
-    ensures { result ≡ Shut }
-{
-    let first = plus(i, 1);
-    let second = plus(j, 1);
-    let _ = println!(rt; "# store lines {first} and {second} break the ring");
-    Opened::Shut
-}
-
-// ── reading ──
-
-fn fill(file: &mut File, buffer: &mut [u8]) -> Filled
-    ensures { result.n ≤ length buffer.new }
+/// So many bytes of a file, up to its end or the buffer's.
+fn fill(file: &mut File, buffer: &mut [u8]) -> io::Result<usize>
+    ensures { IfOk result (λ n. n ≤ length buffer.new) }
 {
     let mut n: usize = 0;
+    // No plainer as a `for`: how far each read comes is the system's to say.
     while n < buffer.len() {
-        let Ok(more) = file.read(&mut buffer[n..]) else {
-            return Filled { n, failed: true };
-        };
+        let more = file.read(&mut buffer[n..])?;
         if more == 0 {
-            return Filled { n, failed: false };
+            break;
         }
         n += more;
     }
-    Filled { n, failed: false }
+    Ok(n)
 }
 
-// A store of more lines than there are slots: the first that cannot be read is named, if there is one. Lines that can be read have 97
-// bytes, so that a buffer full of them ends where a line does.
-fn judge_long(
-    rt: &HostRuntime,
-    file: &mut File,
-    text: &[u8],
-    more: &mut [u8],
-    read: usize,
-) -> Opened
+/// A store of more lines than there are slots: the first that cannot be read is named, if there is one. Lines that can be read have 97
+/// bytes, so that a buffer full of them ends where a line does.
+fn judge_long(file: &mut File, text: &[u8], more: &mut [u8], read: usize) -> Result<usize, Shut>
     requires { read ≤ length more.old }
-    ensures { result ≡ Shut }
+    ensures { IsErr result }
 {
-    let mut before: usize = 0;
-    match store::count_lines(text) {
-        Lines::Stopped(i) => return tell_line(rt, i),
-        Lines::Readable(n) => {
-            before = n;
-        }
-    }
+    let mut before = match store::count_lines(text) {
+        Ok(n) => n,
+        Err(i) => return Err(Shut::Line(i)),
+    };
     let mut m = read;
-    let mut turns = u64::MAX;
-    while turns > 0 {
-        match store::count_lines(&more[0..m]) {
-            Lines::Stopped(i) => return tell_line(rt, plus(before, i)),
-            Lines::Readable(n) => {
-                before = plus(before, n);
-            }
+    for _ in 0..u64::MAX {
+        match store::count_lines(&more[..m]) {
+            Ok(n) => before = before.saturating_add(n),
+            Err(i) => return Err(Shut::Line(before.saturating_add(i))),
         }
-        let next = fill(file, more);
-        if next.failed {
-            return tell_unreadable(rt);
+        match fill(file, more) {
+            Ok(0) => break,
+            Ok(next) => m = next,
+            Err(_) => return Err(Shut::Unreadable),
         }
-        if next.n == 0 {
-            return tell_many(rt);
-        }
-        m = next.n;
-        turns -= 1;
     }
-    tell_many(rt)
+    Err(Shut::Many)
 }
 
-fn load(rt: &HostRuntime, text: &[u8], leaves: &mut [u64], nodes: &mut [u8]) -> Opened
+fn load(text: &[u8], leaves: &mut [u64], nodes: &mut [u8]) -> Result<usize, Shut>
     ensures { OpenedAs result leaves.old nodes.old leaves.new nodes.new }
 {
     match memory::load(text, leaves, nodes) {
-        Loaded::Held(k) => Opened::Holding(k),
-        Loaded::Stopped(i) => tell_line(rt, i),
-        Loaded::TooMany(n) => tell_many(rt),
-        Loaded::Broken(i, j) => tell_pair(rt, i, j),
-        Loaded::NoRoom => tell_many(rt),
+        Ok(k) => Ok(k),
+        Err(LoadError::Fault(Fault::Unreadable(i))) => Err(Shut::Line(i)),
+        Err(LoadError::Fault(Fault::TooMany(_))) => Err(Shut::Many),
+        Err(LoadError::Fault(Fault::Broken(i, j))) => Err(Shut::Pair(i, j)),
+        Err(LoadError::NoRoom) => Err(Shut::Many),
     }
 }
 
 fn open_read(
-    rt: &HostRuntime,
     file: &mut File,
     text: &mut [u8],
     more: &mut [u8],
     leaves: &mut [u64],
     nodes: &mut [u8],
-) -> Opened
+) -> Result<usize, Shut>
     ensures { OpenedAs result leaves.old nodes.old leaves.new nodes.new }
 {
-    let first = fill(file, text);
-    if first.failed {
-        return tell_unreadable(rt);
-    }
-    let second = fill(file, more);
-    if second.failed {
-        return tell_unreadable(rt);
-    }
-    let n = first.n;
-    let m = second.n;
+    let Ok(n) = fill(file, text) else {
+        return Err(Shut::Unreadable);
+    };
+    let Ok(m) = fill(file, more) else {
+        return Err(Shut::Unreadable);
+    };
     if m == 0 {
-        return load(rt, &text[0..n], leaves, nodes);
+        return load(&text[..n], leaves, nodes);
     }
-    judge_long(rt, file, text, more, m)
+    judge_long(file, text, more, m)
 }
 
-// A missing store is an empty one. What is held is what some text loads to, and where the store is shut memory is as it was; that the
-// text is the file's, and what then stands in the two buffers, is for the system to see to. Paths are UTF-8 text here: one that is not
-// cannot be read.
+/// How many leaves are held, or why none are. A missing store is an empty one. What is held is what some text loads to, and where the
+/// store is shut memory is as it was; that the text is the file's, and what then stands in the two buffers, is for the system to see to.
 pub fn open(
     rt: &HostRuntime,
     path: &[u8],
@@ -172,19 +117,19 @@ pub fn open(
     more: &mut [u8],
     leaves: &mut [u64],
     nodes: &mut [u8],
-) -> Opened
+) -> Result<usize, Shut>
     ensures { OpenedAs result leaves.old nodes.old leaves.new nodes.new }
 {
     let Ok(path) = str::from_utf8(path) else {
-        return tell_unreadable(rt);
+        return Err(Shut::Unreadable);
     };
     match File::open(rt, path) {
-        Ok(mut file) => open_read(rt, &mut file, text, more, leaves, nodes),
+        Ok(mut file) => open_read(&mut file, text, more, leaves, nodes),
         Err(e) => {
             if e.kind() == ErrorKind::NotFound {
-                return load(rt, &text[0..0], leaves, nodes);
+                return load(&text[..0], leaves, nodes);
             }
-            tell_unreadable(rt)
+            Err(Shut::Unreadable)
         }
     }
 }

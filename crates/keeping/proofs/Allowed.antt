@@ -1,11 +1,13 @@
 -- A wish that the tablet does not refuse: no word applies, and its plan is the wish's own.
 use mathlib.Core.Path.{◌≡◌, refl, sym, ap, ◌∙◌}
-use mathlib.Core.Bool.{Bool, true, false}
+use mathlib.Core.Bool.{Bool, true, false, true≢false}
+use Rattle.std.specs.Prelude.{Option, Some, None, is_some, Result, Ok, is_ok, IsOk}
 use mathlib.Core.List.{List, [], ◌∷◌}
 use mathlib.Core.Logic.{◌≢◌}
-use Prim.Native.Nat.{ℕ, ◌+◌, ◌<◌}
+use Prim.Native.Nat.{ℕ, ◌<◌, ◌≤◌}
+use lib.ListN.{length}
 use native.Mathlib.Omega.{arith}
-use borrow.Author.Tests.{eq-eqb, eqb-false, ltb-true}
+use borrow.Author.Tests.{eqb-false, ltb-true}
 use lib.Dec.{eqb}
 use Rattle.seqs.specs.Choose.{pick, opposite, Every}
 use Rattle.paper.specs.declared.Revision.{Revision}
@@ -14,30 +16,56 @@ use Rattle.paper.specs.Refusals.{top}
 use Rattle.runs.specs.Run.{World}
 use Rattle.runs.specs.Sizes.{InEightBytes}
 use Rattle.wishes.specs.declared.Wish.{Wish}
-use Rattle.wishes.specs.Words.{own_place, is_listed, first_true, tests, word_for}
+use Rattle.wishes.specs.declared.Wish.TheVariants.{Insert, Remove, Set, Clear, Ask}
+use Rattle.wishes.specs.declared.Refused.{Refused}
+use Rattle.wishes.specs.Words.{own_place, is_listed, words, first_true, tests, unless, word_for}
+use Rattle.plans.specs.declared.Plan.{Plan}
 use Rattle.plans.specs.Plans.{plan_for, begun_for}
 use Rattle.keeping.specs.Talking.{Tablet}
 use Rattle.keeping.specs.Agreeing.{Agrees}
 use Rattle.keeping.specs.Granting.{begins}
 
--- no test of some is true
-none_true : (n : ℕ) (l : List Bool) → 0 < n → first_true n l ≡ 0 → Every (λ t. t ≡ false) l
-none_true n [] h e = tt
-none_true n (t ∷ l) h e = by_test t e (none_true (n + 1) l (omega arith))
+-- no test of some is true, where there is a word for each
+none_true : (ws : List Refused) (l : List Bool) → length l ≤ length ws → first_true ws l ≡ None → Every (λ t. t ≡ false) l
+none_true ws [] h e = tt
+none_true [] (t ∷ l) h e = absurd (omega arith)
+none_true (w ∷ ws) (t ∷ l) h e = by_test t e (none_true ws l (omega arith))
   where
-    by_test : (t : Bool) → pick t n (first_true (n + 1) l) ≡ 0 → (first_true (n + 1) l ≡ 0 → Every (λ t. t ≡ false) l)
+    by_test : (t : Bool) → pick t (Some w) (first_true ws l) ≡ None → (first_true ws l ≡ None → Every (λ t. t ≡ false) l)
         → (t ≡ false) × Every (λ t. t ≡ false) l
-    by_test true e f = absurd (omega arith)
+    by_test true e f = absurd (true≢false (ap is_some e))
     by_test false e f = (refl, f e)
 
-module _ (D : List ℕ → Dig) (x : Tablet) (v : Wish) (allowed : (begins D x v).word ≡ 0) where
-  pub no_word : Every (λ t. t ≡ false) (tests x.leaves x.count x.counter.0 v)
-  unfolding begun_for word_for
-  no_word = none_true 1 (tests x.leaves x.count x.counter.0 v) (omega arith) allowed
+eight_tests : (leaves : List ℕ) (k c : ℕ) (v : Wish) → length (tests leaves k c v) ≤ 8
+eight_tests leaves k c (Insert A) = omega arith
+eight_tests leaves k c (Remove A) = omega arith
+eight_tests leaves k c (Set A v) = omega arith
+eight_tests leaves k c (Clear A) = omega arith
+eight_tests leaves k c (Ask q) = omega arith
 
-  pub its_plan : (begins D x v).plan ≡ plan_for D x.leaves x.nodes x.count x.counter v
+-- what no word refuses
+unless_none : {A : Type 0} (w : Option Refused) (a : A) → is_ok (unless w a) ≡ true → w ≡ None
+unless_none None a e = refl
+unless_none (Some r) a e = absurd (true≢false (sym e))
+
+unless_is : {A : Type 0} (w : Option Refused) (a p : A) → unless w a ≡ Ok p → p ≡ a
+unless_is None a p e = cc
+unless_is (Some r) a p e = absurd (true≢false (sym (ap is_ok e)))
+
+module _ (D : List ℕ → Dig) (x : Tablet) (v : Wish) where
+  pub no_word : IsOk (begins D x v) → Every (λ t. t ≡ false) (tests x.leaves x.count x.counter.0 v)
+  unfolding begun_for word_for
+  no_word allowed =
+      none_true words (tests x.leaves x.count x.counter.0 v) (eight_tests x.leaves x.count x.counter.0 v)
+      (unless_none (first_true words (tests x.leaves x.count x.counter.0 v)) (plan_for D x.leaves x.nodes x.count x.counter v) allowed)
+
+  pub its_plan : (p : Plan) → begins D x v ≡ Ok p → p ≡ plan_for D x.leaves x.nodes x.count x.counter v
   unfolding begun_for
-  its_plan = rw (eq-eqb _ 0 allowed) refl
+  its_plan p begun = unless_is (word_for x.leaves x.count x.counter.0 v) (plan_for D x.leaves x.nodes x.count x.counter v) p begun
+
+-- a plan was made
+pub was_begun : {p : Plan} {r : Result Plan Refused} → r ≡ Ok p → IsOk r
+was_begun e = ap is_ok e
 
 -- ── what tests that are false say ──
 

@@ -38,12 +38,12 @@ use Rattle.groves.specs.Grove.{slots_of, tree_of}
 use Rattle.groves.specs.SlotLines.{leaf_at, leaves_without, drop_at}
 use Rattle.groves.proofs.SlotLines.{drop_last}
 use Rattle.rows.specs.declared.Row.{Row}
-use Rattle.rows.specs.Rows.{row_at, rows_from, row_put, seek, leading_to}
+use Rattle.rows.specs.Rows.{row_at, rows_from, row_put, seek, leading_to, row_digest}
 use Rattle.ringed.specs.Ringed.{leaf_by, leaves_by}
 use Rattle.edits.specs.Changes.{two_places}
 use Rattle.wishes.specs.declared.Wish.TheVariants.{Remove}
 use Rattle.plans.specs.declared.Plan.{Plan}
-use Rattle.plans.specs.Plans.{leaf_of_items, no_row, row_digest, place_plan, dropping}
+use Rattle.plans.specs.Plans.{leaf_of_items, no_row, place_plan, dropping}
 use Rattle.asking.specs.declared.Talk.{Talk}
 use Rattle.asking.specs.Saying.{start_of}
 use Rattle.saying.proofs.Forked.{Forks}

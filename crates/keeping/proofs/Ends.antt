@@ -20,6 +20,7 @@ use Rattle.wishes.specs.Words.{held_of}
 use Rattle.asking.specs.declared.Talk.{Talk}
 use Rattle.asking.specs.Parts.{part_at}
 use Rattle.asking.specs.Saying.{start_of, request_at}
+use Rattle.hearing.specs.declared.End.TheVariants.{GoesOn, Done}
 use Rattle.hearing.specs.declared.Heard.{Heard}
 use Rattle.hearing.specs.Awaiting.{awaited_at, as_awaited}
 use Rattle.hearing.specs.Hearing.{committing, concluding, is_swap, committed_leaves, committed_nodes, heard_as, answered_by, accepts, leaves_heard, committed_talk, nodes_heard, heard_from}
@@ -31,8 +32,8 @@ use Rattle.keeping.proofs.Goes.{add, Accepted, accepted, talk_after, Steps, sent
 module _ (D : List ℕ → Dig) where
   -- nothing is said once a wish has ended
   pub ended_stays : (r : ℕ) (w : World) (x : Tablet) (t : Talk)
-      → converse D r w (record { tablet = x; talk = t; end = 1 })
-      ≡ record { world = w; wish = record { tablet = x; talk = t; end = 1 }; sent = [] }
+      → converse D r w (record { tablet = x; talk = t; end = Done })
+      ≡ record { world = w; wish = record { tablet = x; talk = t; end = Done }; sent = [] }
   ended_stays zero w x t = refl
   ended_stays (suc r) w x t = refl
 
@@ -48,7 +49,7 @@ committed D x p =
 
 module _ (D : List ℕ → Dig) (s : Registers) (x : Tablet) where
   abbrev on_its_way : Talk → Underway
-  on_its_way t = record { tablet = x; talk = t; end = 0 }
+  on_its_way t = record { tablet = x; talk = t; end = GoesOn }
 
   -- a line that is answered with all that is known and nothing more
   pub record LastStep (t : Talk) : Type 0 where
@@ -106,9 +107,9 @@ module _ (D : List ℕ → Dig) (s : Registers) (x : Tablet) where
           }
 
       pub hears_done : is_swap t.plan.script ≡ false
-          → hears D (on_its_way t) l ≡ record { tablet = committed D x t.plan; talk = t; end = 1 }
+          → hears D (on_its_way t) l ≡ record { tablet = committed D x t.plan; talk = t; end = Done }
       unfolding committed_talk
-      hears_done n = committed_as (heard_as 1 0 true t.plan.after.count t.plan.after.counter t) (rw n refl)
+      hears_done n = committed_as (heard_as Done true t.plan.after.count t.plan.after.counter t) (rw n refl)
 
       -- the first half of a removal: the last leaf is then the item's own
       pub hears_swapped : is_swap t.plan.script ≡ true
@@ -117,21 +118,21 @@ module _ (D : List ℕ → Dig) (s : Registers) (x : Tablet) where
           ≡ record {
             tablet = y;
             talk = start_of (dropping D y.leaves y.nodes (held_of y.count) y.counter t.plan.item);
-            end = 0;
+            end = GoesOn;
           })
       unfolding committed_talk
       hears_swapped n =
           let y = committed D x t.plan in
-          committed_as (heard_as 0 0 true y.count y.counter
+          committed_as (heard_as GoesOn true y.count y.counter
           (start_of (dropping D y.leaves y.nodes (held_of y.count) y.counter t.plan.item)))
           (rw n refl)
 
     -- it is a question's last
     pub hears_answer : committing (part_at t.plan.script t.step) ≡ false → concluding (part_at t.plan.script t.step) ≡ true
-        → hears D (on_its_way t) l ≡ record { tablet = x; talk = t; end = 1 }
+        → hears D (on_its_way t) l ≡ record { tablet = x; talk = t; end = Done }
     unfolding heard_from answered_by
     hears_answer c e =
-        let h : heard_from D t x.count x.counter l x.leaves x.nodes ≡ heard_as 1 0 false x.count x.counter t =
+        let h : heard_from D t x.count x.counter l x.leaves x.nodes ≡ heard_as Done false x.count x.counter t =
         rw (awaited, c, e) refl in
         λ i.
         record {

@@ -27,12 +27,12 @@ use Rattle.runs.proofs.Removes.{no_record_hash}
 use Rattle.slots.specs.Nodes.{node_at, leaf_put}
 use Rattle.groves.specs.Grove.{slots_of, tree_of, Kept}
 use Rattle.rows.specs.declared.Row.{Row}
-use Rattle.rows.specs.Rows.{rows_from, row_put}
+use Rattle.rows.specs.Rows.{rows_from, row_put, row_digest}
 use Rattle.ringed.specs.Ringed.{leaf_by, leaves_by}
 use Rattle.edits.specs.Changes.{one_place}
 use Rattle.wishes.specs.declared.Wish.TheVariants.{Insert}
 use Rattle.plans.specs.declared.Plan.{Plan}
-use Rattle.plans.specs.Plans.{leaf_of_items, row_digest, plain_plan, beginning}
+use Rattle.plans.specs.Plans.{leaf_of_items, plain_plan, beginning}
 use Rattle.asking.specs.declared.Talk.{Talk}
 use Rattle.asking.specs.Saying.{start_of, request_at}
 use Rattle.rising.specs.Rising.{as_edit}
@@ -98,7 +98,6 @@ module _ {D : List ℕ → Dig} {w : World} {x : Tablet} (a : Agrees D w x) (rea
   t n = talk_after D s x n (start_of P)
 
   digest_is : row_digest D row ≡ digest_of D (leaf A.0 A.0 nought)
-  unfolding row_digest
   digest_is = ap (λ (d : Dig). digest_of D (leaf A.0 A.0 d)) (no_record_hash D)
 
   change_is : P.change ≡ one_place D x.nodes 0 (row_digest D row)

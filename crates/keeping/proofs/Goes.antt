@@ -20,6 +20,7 @@ use Rattle.runs.proofs.Fed.{told_accepted}
 use Rattle.asking.specs.declared.Talk.{Talk}
 use Rattle.asking.specs.Parts.{part_at}
 use Rattle.asking.specs.Saying.{request_at}
+use Rattle.hearing.specs.declared.End.TheVariants.{GoesOn}
 use Rattle.hearing.specs.Awaiting.{awaited_at}
 use Rattle.hearing.specs.Hearing.{committing, concluding}
 use Rattle.saying.specs.Spoken.{next_talk, issued_for, spoken}
@@ -49,7 +50,7 @@ module _ (D : List ℕ → Dig) (s : Registers) where
 
   module _ (x : Tablet) where
     abbrev underway : Talk → Underway
-    underway t = record { tablet = x; talk = t; end = 0 }
+    underway t = record { tablet = x; talk = t; end = GoesOn }
 
     -- a line that is answered with a memorandum and changes nothing
     pub record Step (t : Talk) : Type 0 where

@@ -17,6 +17,7 @@ use Rattle.plans.specs.declared.Plan.{Plan}
 use Rattle.asking.specs.declared.Talk.{Talk}
 use Rattle.asking.specs.Parts.{part_at}
 use Rattle.asking.specs.Saying.{start_of, request_at}
+use Rattle.hearing.specs.declared.End.TheVariants.{GoesOn, Done}
 use Rattle.hearing.specs.Awaiting.{as_awaited}
 use Rattle.hearing.specs.Hearing.{committing, is_swap}
 use Rattle.saying.specs.Spoken.{next_talk, issued_for, spoken}
@@ -68,8 +69,8 @@ module _ (D : List ℕ → Dig) (s : Registers) (x : Tablet) where
     -- to what the wish goes on with
     pub goes_behind : (u : Underway)
         → ((l : List ℕ) → as_awaited (talk_after D s x n t₀) l ≡ true
-        → hears D (record { tablet = x; talk = talk_after D s x n t₀; end = 0 }) l ≡ u) → (r : ℕ)
-        → converse D (add n (suc r)) w (record { tablet = x; talk = t₀; end = 0 })
+        → hears D (record { tablet = x; talk = talk_after D s x n t₀; end = GoesOn }) l ≡ u) → (r : ℕ)
+        → converse D (add n (suc r)) w (record { tablet = x; talk = t₀; end = GoesOn })
         ≡ sent_before D ts (converse D r (fed D w ts) u)
     goes_behind u leads r =
         let q = turn_of (request_at x.nodes (talk_after D s x n t₀)) in
@@ -90,11 +91,11 @@ module _ (D : List ℕ → Dig) (s : Registers) (x : Tablet) where
     -- to its end
     ended_as : (y : Tablet) (t : Talk)
         → ((l : List ℕ) → as_awaited (talk_after D s x n t₀) l ≡ true
-        → hears D (record { tablet = x; talk = talk_after D s x n t₀; end = 0 }) l ≡ record { tablet = y; talk = t; end = 1 }) → (r : ℕ)
-        → converse D (add n (suc r)) w (record { tablet = x; talk = t₀; end = 0 })
-        ≡ record { world = fed D w ts; wish = record { tablet = y; talk = t; end = 1 }; sent = ts }
+        → hears D (record { tablet = x; talk = talk_after D s x n t₀; end = GoesOn }) l ≡ record { tablet = y; talk = t; end = Done }) → (r : ℕ)
+        → converse D (add n (suc r)) w (record { tablet = x; talk = t₀; end = GoesOn })
+        ≡ record { world = fed D w ts; wish = record { tablet = y; talk = t; end = Done }; sent = ts }
     ended_as y t ends r =
-        let u : Underway = record { tablet = y; talk = t; end = 1 } in
+        let u : Underway = record { tablet = y; talk = t; end = Done } in
         goes_behind u ends r ∙ ap (sent_before D ts) (ended_stays D r (fed D w ts) y t)
         ∙ ap (λ (l : List LineTurn). record { world = fed D w ts; wish = u; sent = l }) (append-nil ts)
 
@@ -102,7 +103,7 @@ module _ (D : List ℕ → Dig) (s : Registers) (x : Tablet) where
 pub grants_by : (D : List ℕ → Dig) (w : World) (x y : Tablet) (v : Wish) (n changed : ℕ) (P : Plan) (t : Talk) (qs : List Request)
     → Steps D w.registers x n (start_of P) → LastStep D w.registers x (talk_after D w.registers x n (start_of P))
     → ((l : List ℕ) → as_awaited (talk_after D w.registers x n (start_of P)) l ≡ true
-    → hears D (record { tablet = x; talk = talk_after D w.registers x n (start_of P); end = 0 }) l ≡ record { tablet = y; talk = t; end = 1 })
+    → hears D (record { tablet = x; talk = talk_after D w.registers x n (start_of P); end = GoesOn }) l ≡ record { tablet = y; talk = t; end = Done })
     → spoken D w.registers x.nodes (add n 1) (start_of P) ≡ qs
     → Brings D w qs (registers_after w.registers (node_at y.nodes 1) (wish_of v)) (items_after w.registers w.items (wish_of v)) changed
     → (registers_after w.registers (node_at y.nodes 1) (wish_of v)).counter.0 ≡ changed
@@ -114,7 +115,7 @@ grants_by D w x y v n changed P t qs ks k ends lines b counted agrees answered r
     let honest = subst (λ (l : List Request). HonestTurns D w (turns_of l)) (sym lines) b.fair in
     let is = ended_as D w.registers x w refl n (start_of P) ks k honest y t ends r
     ∙ ap (λ (l : List Request).
-    record { world = fed D w (turns_of l); wish = record { tablet = y; talk = t; end = 1 }; sent = turns_of l }) lines in
+    record { world = fed D w (turns_of l); wish = record { tablet = y; talk = t; end = Done }; sent = turns_of l }) lines in
     subst (Grants D w v) (sym is) (record {
       ended = refl;
       led = refl;
@@ -141,5 +142,5 @@ pub grants_committed : (D : List ℕ → Dig) (w : World) (x y : Tablet) (v : Wi
 grants_committed D w x y v n changed P qs ks k commits once is lines b counted agrees answered r =
     let t = talk_after D w.registers x n (start_of P) in
     grants_by D w x y v n changed P t qs ks k
-    (λ l e. hears_done D w.registers x t l e commits once ∙ ap (λ (z : Tablet). record { tablet = z; talk = t; end = 1 }) is)
+    (λ l e. hears_done D w.registers x t l e commits once ∙ ap (λ (z : Tablet). record { tablet = z; talk = t; end = Done }) is)
     lines b counted agrees answered r

@@ -16,6 +16,7 @@ use Rattle.paper.specs.Strings.{Dig}
 use Rattle.asking.specs.declared.Talk.{Talk}
 use Rattle.asking.specs.declared.Part.{Part}
 use Rattle.asking.specs.Parts.{part_at}
+use Rattle.hearing.specs.declared.End.TheVariants.{GoesOn}
 use Rattle.hearing.specs.Awaiting.{Awaited, awaited_at, is_line, fits_reply, replies, as_awaited}
 use Rattle.hearing.specs.Hearing.{committing, concluding, next_step, last_digest, heard_as, answered_by, accepts, leaves_heard, committed_leaves, committed_nodes, nodes_heard, heard_from}
 use Rattle.saying.specs.Spoken.{next_talk}
@@ -72,10 +73,10 @@ module _ (t : Talk) where
   -- the wish goes on with the memorandum
   pub heard_on : (D : List ℕ → Dig) (k : ℕ) (c : Revision) (leaves nodes b d : List ℕ) → Bytes b → b ≡ (awaited_at t).known ++ d
       → (awaited_at t).memo ≡ true → length d ≡ 32 → committing part ≡ false → concluding part ≡ false → t.step < 255
-      → heard_from D t k c (digits_of b) leaves nodes ≡ heard_as 0 0 false k c (next_talk t d)
+      → heard_from D t k c (digits_of b) leaves nodes ≡ heard_as GoesOn false k c (next_talk t d)
   unfolding heard_from answered_by next_step
   heard_on D k c leaves nodes b d h e memo n plain more small =
       let size : length d ≡ pick (awaited_at t).memo 32 0 = n ∙ sym (ap (λ (v : Bool). pick v 32 0) memo) in
       let d-is : last_digest (bytes_of (digits_of b)) ≡ d = ap last_digest (bytes_of_digits b h ∙ e) ∙ last_is (awaited_at t).known d n in
       rw (as_awaited_lem t b d h e size, plain, more, lt-ltb t.step 255 small)
-      (ap (λ (x : Dig). heard_as 0 0 false k c (record { plan = t.plan; step = t.step + 1; older = t.memo; memo = x })) d-is)
+      (ap (λ (x : Dig). heard_as GoesOn false k c (record { plan = t.plan; step = t.step + 1; older = t.memo; memo = x })) d-is)

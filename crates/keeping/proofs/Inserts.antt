@@ -33,12 +33,12 @@ use Rattle.groves.specs.Grove.{slots_of, tree_of}
 use Rattle.groves.specs.SlotLines.{leaf_at, leaves_with, insert_at}
 use Rattle.groves.proofs.SlotLines.{insert_slot}
 use Rattle.rows.specs.declared.Row.{Row}
-use Rattle.rows.specs.Rows.{row_at, rows_from, row_put, seek, gap_of}
+use Rattle.rows.specs.Rows.{row_at, rows_from, row_put, seek, gap_of, row_digest}
 use Rattle.ringed.specs.Ringed.{leaf_by, leaves_by}
 use Rattle.edits.specs.Changes.{two_places}
 use Rattle.wishes.specs.declared.Wish.TheVariants.{Insert}
 use Rattle.plans.specs.declared.Plan.{Plan}
-use Rattle.plans.specs.Plans.{leaf_of_items, row_digest, place_plan, inserting}
+use Rattle.plans.specs.Plans.{leaf_of_items, place_plan, inserting}
 use Rattle.asking.specs.declared.Talk.{Talk}
 use Rattle.asking.specs.Saying.{start_of}
 use Rattle.saying.proofs.Forked.{Forks}

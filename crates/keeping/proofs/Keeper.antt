@@ -1,6 +1,8 @@
 -- The honest keeper: every wish that the tablet does not refuse is granted, and tablet and module are together again.
 use mathlib.Core.Path.{◌≡◌, refl, sym, ap, subst, ◌∙◌}
 use mathlib.Core.List.{List}
+use Rattle.std.specs.Prelude.{Ok, IsOk}
+use Rattle.plans.specs.declared.Plan.{Plan}
 use Prim.Native.Nat.{ℕ, suc, ◌+◌, ◌-◌, ◌<◌, ◌≤◌}
 use native.Mathlib.Omega.{arith}
 use lib.ListN.{length}
@@ -19,7 +21,7 @@ use Rattle.wishes.specs.declared.Wish.TheVariants.{Insert, Remove, Set, Clear, A
 use Rattle.hearing.specs.Hearing.{accepts, not_awaited, leaves_heard, nodes_heard, heard_from}
 use Rattle.keeping.specs.Talking.{Tablet, set_out, Conversed, converse}
 use Rattle.keeping.specs.Granting.{WishFits, most_lines, begins, Grants, Together, StartTogether, OtherRepliesTold, KeepsHonestly, HonestKeeper}
-use Rattle.keeping.proofs.Allowed.{no_word, below_top_lem}
+use Rattle.keeping.proofs.Allowed.{no_word, was_begun, below_top_lem}
 use Rattle.keeping.proofs.Questions.{ask_granted}
 use Rattle.keeping.proofs.Records.{set_granted, clear_granted}
 use Rattle.keeping.proofs.Places.{insert_granted, remove_granted}
@@ -47,7 +49,7 @@ module _ (D : List ℕ → Dig) (D32 : (l : List ℕ) → length (D l) ≡ 32) (
   raised_narrow : w.registers.counter.0 < top → InEightBytes (w.registers.counter.0 + 1)
   raised_narrow h = omega (arith, h)
 
-  together_again : (v : Wish) → (begins D x v).word ≡ 0 → (c : Conversed D) → Grants D w v c → Together D c.world c.wish.tablet
+  together_again : (v : Wish) → IsOk (begins D x v) → (c : Conversed D) → Grants D w v c → Together D c.world c.wish.tablet
   together_again (Insert A) e c g = again (Insert A) c _ g g.registers refl t.narrow
   together_again (Remove A) e c g = again (Remove A) c _ g g.registers refl t.narrow
   together_again (Set A v) e c g =
@@ -60,25 +62,25 @@ module _ (D : List ℕ → Dig) (D32 : (l : List ℕ) → length (D l) ≡ 32) (
 
   -- ── each wish ──
 
-  abbrev In : Wish → ℕ → Type 0
-  In v n = Grants D w v (converse D n w (set_out x (begins D x v).plan))
+  abbrev In : Wish → Plan → ℕ → Type 0
+  In v p n = Grants D w v (converse D n w (set_out x p))
 
-  granted : (v : Wish) → WishFits v → (begins D x v).word ≡ 0 → (n : ℕ) → most_lines v ≤ n → In v n
-  granted (Insert A) fits e n enough =
+  granted : (v : Wish) → WishFits v → (p : Plan) → begins D x v ≡ Ok p → (n : ℕ) → most_lines v ≤ n → In v p n
+  granted (Insert A) fits p e n enough =
       let all : suc (suc (suc (suc (suc (suc (suc (suc (n - 8)))))))) ≡ n = omega arith in
-      subst (In (Insert A)) all (insert_granted t.agrees ready t.counted A fits e (n - 8))
-  granted (Remove A) fits e n enough =
+      subst (In (Insert A) p) all (insert_granted t.agrees ready t.counted A fits p e (n - 8))
+  granted (Remove A) fits p e n enough =
       let all : suc (suc (suc (suc (suc (suc (suc (suc (suc (suc (suc (suc (suc (suc (n - 14)))))))))))))) ≡ n = omega arith in
-      subst (In (Remove A)) all (remove_granted t.agrees ready t.counted A e (n - 14))
-  granted (Set A v) fits e n enough =
+      subst (In (Remove A) p) all (remove_granted t.agrees ready t.counted A p e (n - 14))
+  granted (Set A v) fits p e n enough =
       let all : suc (suc (n - 2)) ≡ n = omega arith in
-      subst (In (Set A v)) all (set_granted t.agrees ready t.counted t.narrow A v fits.1 e (n - 2))
-  granted (Clear A) fits e n enough =
+      subst (In (Set A v) p) all (set_granted t.agrees ready t.counted t.narrow A v fits.1 p e (n - 2))
+  granted (Clear A) fits p e n enough =
       let all : suc (suc (n - 2)) ≡ n = omega arith in
-      subst (In (Clear A)) all (clear_granted t.agrees ready t.counted t.narrow A e (n - 2))
-  granted (Ask q) fits e n enough =
+      subst (In (Clear A) p) all (clear_granted t.agrees ready t.counted t.narrow A p e (n - 2))
+  granted (Ask q) fits p e n enough =
       let all : suc (suc (suc (n - 3))) ≡ n = omega arith in
-      subst (In (Ask q)) all (ask_granted t.agrees ready t.counted q fits e (n - 3))
+      subst (In (Ask q) p) all (ask_granted t.agrees ready t.counted q fits p e (n - 3))
 
 start_together : (D : List ℕ → Dig) → StartTogether D
 start_together D s x rs opened narrow holds root counter =
@@ -98,9 +100,9 @@ keeps_honestly : (D : List ℕ → Dig) → ((l : List ℕ) → length (D l) ≡
 keeps_honestly D D32 DB =
     record {
       anywhere = start_together D;
-      every_wish = λ w x t v fits e n enough.
-          let g = granted D D32 DB w x t v fits e n enough in
-          record { grants = g; together = together_again D D32 DB w x t v e _ g };
+      every_wish = λ w x t v fits p e n enough.
+          let g = granted D D32 DB w x t v fits p e n enough in
+          record { grants = g; together = together_again D D32 DB w x t v (was_begun e) _ g };
       refuses_just = refuses_just D;
       other_replies = other_told D;
     }

@@ -18,10 +18,9 @@ use Rattle.groves.proofs.Stored.{set_slot, append_slot, append_other, kept_same}
 use Rattle.groves.proofs.SlotLines.{slot_past}
 use Rattle.groves.proofs.Puts.{put_kept}
 use Rattle.rows.specs.declared.Row.{Row}
-use Rattle.rows.specs.Rows.{row_numbers, row_at, rows_from, row_put}
+use Rattle.rows.specs.Rows.{row_numbers, row_at, rows_from, row_put, row_digest}
 use Rattle.rows.proofs.Puts.{row_there, row_else, rows_put}
 use Rattle.ringed.specs.Ringed.{leaf_by, leaves_by, Closed}
-use Rattle.plans.specs.Plans.{row_digest}
 use Rattle.store.specs.RoundTrip.{Storable}
 use Rattle.memory.proofs.Puts.{row_length}
 use Rattle.holding.specs.Holding.{Holds}
@@ -66,7 +65,6 @@ kept_root D l m k = sym (kept_node D (slots_of l) m k 10 0 1 refl (record { from
 
 -- a row's digest is one
 pub row_digest_lem : {D : List ℕ → Dig} → ((l : List ℕ) → IsDigest (D l)) → (r : Row) → IsDigest (row_digest D r)
-unfolding row_digest
 row_digest_lem DD r = DD _
 
 -- ── rows and their leaves ──
@@ -118,7 +116,6 @@ module _ (D : List ℕ → Dig) (D32 : (l : List ℕ) → length (D l) ≡ 32) w
   -- another row in a slot
   pub put_laid : (rs : List Row) (leaves nodes : List ℕ) (k i : ℕ) (r : Row) → Laid D rs leaves nodes k → i < k → Storable r
       → Laid D (set rs i r) (row_put leaves i r) (leaf_put D nodes i (row_digest D r)) k
-  unfolding row_digest
   put_laid rs leaves nodes k i r l h t =
       let ls = leaves_by (record_hash D) rs in
       let x = leaf_by (record_hash D) r in
@@ -140,7 +137,6 @@ module _ (D : List ℕ → Dig) (D32 : (l : List ℕ) → length (D l) ≡ 32) w
   -- one more, in the first free slot
   pub append_laid : (rs : List Row) (leaves nodes : List ℕ) (k : ℕ) (r : Row) → Laid D rs leaves nodes k → k < slot_count → Storable r
       → Laid D (rs ++ (r ∷ [])) (row_put leaves k r) (leaf_put D nodes k (row_digest D r)) (k + 1)
-  unfolding row_digest
   append_laid rs leaves nodes k r l h t =
       let ls = leaves_by (record_hash D) rs in
       let x = leaf_by (record_hash D) r in

@@ -2,7 +2,8 @@
 use mathlib.Core.Path.{◌≡◌, refl, ap, ◌∙◌}
 use mathlib.Core.Bool.{Bool, false}
 use mathlib.Core.List.{List, [], ◌∷◌}
-use Prim.Native.Nat.{ℕ, ◌+◌, ◌<◌}
+use Rattle.std.specs.Prelude.{Option, Some, None, is_ok, IsOk}
+use Prim.Native.Nat.{ℕ, ◌<◌}
 use native.Mathlib.Omega.{arith}
 use native.Mathlib.Decide.{dec_lt}
 use borrow.Author.Tests.{ne_eqb, eqb-false, lt-ltb, le-ltb, lt-leb, leb-false}
@@ -21,8 +22,9 @@ use Rattle.runs.specs.Sizes.{InEightBytes}
 use Rattle.runs.proofs.Masses.{not_silly_lem, sensible}
 use Rattle.wishes.specs.declared.Wish.{Wish}
 use Rattle.wishes.specs.declared.Wish.TheVariants.{Insert, Remove, Set, Clear, Ask}
-use Rattle.wishes.specs.Words.{own_place, is_listed, first_true, tests, word_for}
-use Rattle.plans.specs.Plans.{begun_for}
+use Rattle.wishes.specs.declared.Refused.{Refused}
+use Rattle.wishes.specs.Words.{own_place, is_listed, words, first_true, tests, unless, word_for}
+use Rattle.plans.specs.Plans.{plan_for, begun_for}
 use Rattle.keeping.specs.Talking.{Tablet}
 use Rattle.keeping.specs.Agreeing.{Agrees}
 use Rattle.keeping.specs.Granting.{wish_of, WishFits, Within, begins, RefusesJust}
@@ -91,13 +93,16 @@ module _ {D : List ℕ → Dig} {w : World} {x : Tablet} (a : Agrees D w x) wher
   false_by (Ask q) l h = not_zero_lem q.0 l.0 and refl and refl and refl and refl and refl and refl and refl and tt
 
   -- no test true, no word
-  none_first : (n : ℕ) (l : List Bool) → Every (λ t. t ≡ false) l → first_true n l ≡ 0
-  none_first n [] k = refl
-  none_first n (t ∷ l) k = ap (λ (b : Bool). pick b n (first_true (n + 1) l)) k.0 ∙ none_first (n + 1) l k.1
+  none_first : (ws : List Refused) (l : List Bool) → Every (λ t. t ≡ false) l → first_true ws l ≡ None
+  none_first [] l k = refl
+  none_first (w ∷ ws) [] k = refl
+  none_first (w ∷ ws) (t ∷ l) k = ap (λ (b : Bool). pick b (Some w) (first_true ws l)) k.0 ∙ none_first ws l k.1
 
-  no_word_by : (v : Wish) → AllFalse v → (begins D x v).word ≡ 0
+  no_word_by : (v : Wish) → AllFalse v → IsOk (begins D x v)
   unfolding begun_for word_for
-  no_word_by v k = none_first 1 (tests x.leaves x.count x.counter.0 v) k
+  no_word_by v k =
+      ap (λ (r : Option Refused). is_ok (unless r (plan_for D x.leaves x.nodes x.count x.counter v)))
+      (none_first words (tests x.leaves x.count x.counter.0 v) k)
 
 pub refuses_just : (D : List ℕ → Dig) → RefusesJust D
 refuses_just D =

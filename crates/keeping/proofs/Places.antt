@@ -3,6 +3,7 @@ use mathlib.Core.Path.{◌≡◌, refl, sym, ap, subst, ◌∙◌}
 use mathlib.Core.Bool.{false, true≢false}
 use mathlib.Core.List.{List, [], ◌∷◌}
 use mathlib.Core.Logic.{inl, inr, ◌≢◌}
+use Rattle.std.specs.Prelude.{Ok}
 use Prim.Native.Nat.{ℕ, suc, ◌-◌, ◌<◌, ◌≤◌}
 use native.Mathlib.Omega.{arith}
 use native.Mathlib.Decide.{ℕ_discrete, dec_le}
@@ -32,7 +33,7 @@ use Rattle.keeping.specs.Agreeing.{Agrees}
 use Rattle.keeping.specs.Granting.{begins, Grants}
 use Rattle.keeping.proofs.Grounds.{not_malformed, ground_there}
 use Rattle.keeping.proofs.Listed.{row_stored, own, found_listed, sought, listed_many}
-use Rattle.keeping.proofs.Allowed.{no_word, its_plan, opposite_false, is_listed_lem}
+use Rattle.keeping.proofs.Allowed.{no_word, its_plan, was_begun, opposite_false, is_listed_lem}
 use Rattle.keeping.proofs.Inserts.{insert_done}
 use Rattle.keeping.proofs.Drops.{drop_done}
 use Rattle.keeping.proofs.Swaps.{swap_done}
@@ -82,13 +83,13 @@ module _ {D : List ℕ → Dig} {w : World} {x : Tablet} (a : Agrees D w x) (rea
       let there = sought a (record_hash D) (gap_holds A.0) _ t.passes t.in_ring in
       subst (InsertBy A r) (sym (further_plan A (λ z. omega (arith, z, there)))) (insert_done a ready A small positive room there counter r)
 
-  pub insert_granted : (A : Item) → InEightBytes A.0 → (begins D x (Insert A)).word ≡ 0 → (r : ℕ)
-      → Grants D w (Insert A) (converse D (suc (suc (suc (suc (suc (suc (suc (suc r)))))))) w (set_out x (begins D x (Insert A)).plan))
-  insert_granted A small allowed r =
-      let tests = no_word D x (Insert A) allowed in
+  pub insert_granted : (A : Item) → InEightBytes A.0 → (p : Plan) → begins D x (Insert A) ≡ Ok p → (r : ℕ)
+      → Grants D w (Insert A) (converse D (suc (suc (suc (suc (suc (suc (suc (suc r)))))))) w (set_out x p))
+  insert_granted A small p begun r =
+      let tests = no_word D x (Insert A) (was_begun begun) in
       let positive : 0 < A.0 = omega (arith, eqb-false A.0 0 tests.0) in
       let room : x.count < 1024 = leb-false 1024 x.count tests.1.1.1.1.1.1.0 in
-      subst (InsertBy A r) (sym (its_plan D x (Insert A) allowed))
+      subst (InsertBy A r) (sym (its_plan D x (Insert A) p begun))
       (insert_by A small positive (not_listed a A.0 tests.1.1.0) room w.items refl r)
 
   -- ── remove ──
@@ -135,9 +136,9 @@ module _ {D : List ℕ → Dig} {w : World} {x : Tablet} (a : Agrees D w x) (rea
       by_count (no n) =
           by_place (omega (arith, n)) (ℕ_discrete (own_place x.leaves x.count A.0) (x.count - 1))
 
-  pub remove_granted : (A : Item) → (begins D x (Remove A)).word ≡ 0 → (r : ℕ) → RemoveBy A r (begins D x (Remove A)).plan
-  remove_granted A allowed r =
-      let tests = no_word D x (Remove A) allowed in
+  pub remove_granted : (A : Item) → (p : Plan) → begins D x (Remove A) ≡ Ok p → (r : ℕ) → RemoveBy A r p
+  remove_granted A p begun r =
+      let tests = no_word D x (Remove A) (was_begun begun) in
       let there = is_listed_lem a A.0 tests.1.1.1.0 in
-      subst (RemoveBy A r) (sym (its_plan D x (Remove A) allowed))
+      subst (RemoveBy A r) (sym (its_plan D x (Remove A) p begun))
       (remove_by A there (empty_listed a A.0 there tests.1.1.1.1.0) r)

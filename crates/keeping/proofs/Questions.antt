@@ -2,6 +2,7 @@
 use mathlib.Core.Path.{◌≡◌, refl, sym, ap, subst, ◌∙◌}
 use mathlib.Core.List.{List, [], ◌∷◌}
 use mathlib.Core.Logic.{◌≢◌}
+use Rattle.std.specs.Prelude.{Ok}
 use Prim.Native.Nat.{ℕ, suc, ◌+◌, ◌<◌, ◌≤◌}
 use native.Mathlib.Omega.{arith}
 use borrow.Author.Tests.{eqb-false}
@@ -57,7 +58,7 @@ use Rattle.keeping.proofs.Ends.{LastStep, hears_answer}
 use Rattle.keeping.proofs.Sorts.{line_at, path_step, memo_step}
 use Rattle.keeping.proofs.Grounds.{kept_there, ground_there}
 use Rattle.keeping.proofs.Listed.{row_stored, row_record, sought, listed_many}
-use Rattle.keeping.proofs.Allowed.{no_word, its_plan}
+use Rattle.keeping.proofs.Allowed.{no_word, its_plan, was_begun}
 use Rattle.keeping.proofs.Grants.{grants_by}
 
 -- ── a finding's bytes ──
@@ -229,10 +230,10 @@ module _ {D : List ℕ → Dig} {w : World} {x : Tablet} (a : Agrees D w x) (rea
 
 -- a question
 pub ask_granted : {D : List ℕ → Dig} {w : World} {x : Tablet} → Agrees D w x → Ready D w → w.registers.counter.0 ≡ w.changed → (q : Item)
-    → InEightBytes q.0 → (begins D x (Ask q)).word ≡ 0 → (r : ℕ)
-    → Grants D w (Ask q) (converse D (suc (suc (suc r))) w (set_out x (begins D x (Ask q)).plan))
-ask_granted {D} {w} {x} a ready counter q small allowed r =
-    let tests = no_word D x (Ask q) allowed in
+    → InEightBytes q.0 → (p : Plan) → begins D x (Ask q) ≡ Ok p → (r : ℕ)
+    → Grants D w (Ask q) (converse D (suc (suc (suc r))) w (set_out x p))
+ask_granted {D} {w} {x} a ready counter q small p begun r =
+    let tests = no_word D x (Ask q) (was_begun begun) in
     let positive : 0 < q.0 = omega (arith, eqb-false q.0 0 tests.0) in
-    subst (λ (p : Plan). Grants D w (Ask q) (converse D (suc (suc (suc r))) w (set_out x p))) (sym (its_plan D x (Ask q) allowed))
+    subst (λ (p : Plan). Grants D w (Ask q) (converse D (suc (suc (suc r))) w (set_out x p))) (sym (its_plan D x (Ask q) p begun))
     (by_items a ready counter q small positive w.items refl r)

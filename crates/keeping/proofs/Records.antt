@@ -2,6 +2,7 @@
 use mathlib.Core.Path.{◌≡◌, refl, sym, ap, subst, ◌∙◌}
 use mathlib.Core.Bool.{false}
 use mathlib.Core.List.{List}
+use Rattle.std.specs.Prelude.{Ok}
 use Prim.Native.Nat.{ℕ, suc, ◌+◌, ◌<◌, ◌≤◌}
 use native.Mathlib.Omega.{arith}
 use lib.Dec.{eqb}
@@ -45,7 +46,7 @@ use Rattle.keeping.proofs.Ends.{LastStep}
 use Rattle.keeping.proofs.Sorts.{line_at}
 use Rattle.keeping.proofs.Grounds.{kept_there, ground_there}
 use Rattle.keeping.proofs.Listed.{row_stored, own, found_listed}
-use Rattle.keeping.proofs.Allowed.{no_word, its_plan, is_listed_lem, below_top_lem}
+use Rattle.keeping.proofs.Allowed.{no_word, its_plan, was_begun, is_listed_lem, below_top_lem}
 use Rattle.keeping.proofs.After.{item_positive, next_positive, storable_by}
 use Rattle.keeping.proofs.Grants.{grants_committed}
 use Rattle.keeping.proofs.Rewrites.{Rewritable, OfOne, leaf_fits, raised_is, path_first, roots_digests, last_as, y, committed_is, agrees_then, root_then}
@@ -190,16 +191,16 @@ module _ {D : List ℕ → Dig} {w : World} {x : Tablet} (a : Agrees D w x) (rea
         below = below_top_lem a small below;
       }
 
-  pub set_granted : (A : Item) (v : Values) → ValuesFit v → (begins D x (Set A v)).word ≡ 0 → (r : ℕ)
-      → Grants D w (Set A v) (converse D (suc (suc r)) w (set_out x (begins D x (Set A v)).plan))
-  set_granted A v fit allowed r =
-      let t = no_word D x (Set A v) allowed in
-      subst (λ (p : Plan). Grants D w (Set A v) (converse D (suc (suc r)) w (set_out x p))) (sym (its_plan D x (Set A v) allowed))
+  pub set_granted : (A : Item) (v : Values) → ValuesFit v → (p : Plan) → begins D x (Set A v) ≡ Ok p → (r : ℕ)
+      → Grants D w (Set A v) (converse D (suc (suc r)) w (set_out x p))
+  set_granted A v fit p begun r =
+      let t = no_word D x (Set A v) (was_begun begun) in
+      subst (λ (p : Plan). Grants D w (Set A v) (converse D (suc (suc r)) w (set_out x p))) (sym (its_plan D x (Set A v) p begun))
       (set_done (rewritable A t.1.1.1.0 t.1.1.1.1.1.1.1.0) v fit (sensible v.mass.0 t.1.0) r)
 
-  pub clear_granted : (A : Item) → (begins D x (Clear A)).word ≡ 0 → (r : ℕ)
-      → Grants D w (Clear A) (converse D (suc (suc r)) w (set_out x (begins D x (Clear A)).plan))
-  clear_granted A allowed r =
-      let t = no_word D x (Clear A) allowed in
-      subst (λ (p : Plan). Grants D w (Clear A) (converse D (suc (suc r)) w (set_out x p))) (sym (its_plan D x (Clear A) allowed))
+  pub clear_granted : (A : Item) → (p : Plan) → begins D x (Clear A) ≡ Ok p → (r : ℕ)
+      → Grants D w (Clear A) (converse D (suc (suc r)) w (set_out x p))
+  clear_granted A p begun r =
+      let t = no_word D x (Clear A) (was_begun begun) in
+      subst (λ (p : Plan). Grants D w (Clear A) (converse D (suc (suc r)) w (set_out x p))) (sym (its_plan D x (Clear A) p begun))
       (clear_done (rewritable A t.1.1.1.0 t.1.1.1.1.1.1.1.0) t.1.1.1.1.1.0 r)

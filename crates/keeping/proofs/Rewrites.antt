@@ -38,14 +38,14 @@ use Rattle.slots.specs.Nodes.{node_at, leaf_put}
 use Rattle.groves.specs.Grove.{slots_of, tree_of, way_up}
 use Rattle.groves.proofs.ShortLines.{way_length}
 use Rattle.rows.specs.declared.Row.{Row}
-use Rattle.rows.specs.Rows.{row_at, rows_from, row_put}
+use Rattle.rows.specs.Rows.{row_at, rows_from, row_put, row_digest}
 use Rattle.ringed.specs.Ringed.{leaf_by, leaves_by}
 use Rattle.edits.specs.declared.Change.{Change}
 use Rattle.edits.specs.Changes.{one_place}
 use Rattle.wishes.specs.Words.{own_place}
 use Rattle.plans.specs.declared.Script.{Script}
 use Rattle.plans.specs.declared.Plan.{Plan}
-use Rattle.plans.specs.Plans.{leaf_of_items, raised_counter, row_digest, plain_plan, rewritten}
+use Rattle.plans.specs.Plans.{leaf_of_items, raised_counter, plain_plan, rewritten}
 use Rattle.asking.specs.declared.Part.TheVariants.{PathWhole}
 use Rattle.asking.specs.Parts.{part_at}
 use Rattle.asking.specs.Saying.{start_of, turns_round, turned_edit, request_at}

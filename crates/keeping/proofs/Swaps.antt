@@ -28,16 +28,17 @@ use Rattle.groves.specs.Grove.{slots_of, tree_of}
 use Rattle.groves.specs.SlotLines.{leaf_at, leaves_swapped, swap_at}
 use Rattle.groves.proofs.SlotLines.{swap_slots}
 use Rattle.rows.specs.declared.Row.{Row}
-use Rattle.rows.specs.Rows.{row_at, rows_from, row_put, of_item}
+use Rattle.rows.specs.Rows.{row_at, rows_from, row_put, of_item, row_digest}
 use Rattle.rows.proofs.Puts.{row_there, row_else}
 use Rattle.ringed.specs.Ringed.{leaf_by, leaves_by}
 use Rattle.edits.specs.Changes.{two_places}
 use Rattle.wishes.specs.declared.Wish.TheVariants.{Remove}
 use Rattle.wishes.specs.Words.{held_of, own_place}
 use Rattle.plans.specs.declared.Plan.{Plan}
-use Rattle.plans.specs.Plans.{row_digest, plain_plan, swapping, dropping}
+use Rattle.plans.specs.Plans.{plain_plan, swapping, dropping}
 use Rattle.asking.specs.declared.Talk.{Talk}
 use Rattle.asking.specs.Saying.{start_of}
+use Rattle.hearing.specs.declared.End.TheVariants.{GoesOn}
 use Rattle.hearing.specs.Awaiting.{as_awaited}
 use Rattle.saying.proofs.Forked.{Forks}
 use Rattle.saying.proofs.Planned.{many, leaf_is, slot_digest, swap_lines_lem}
@@ -238,7 +239,7 @@ module _ {D : List ℕ → Dig} {w : World} {x : Tablet} (a : Agrees D w x) (rea
   abbrev next_plan : Plan
   next_plan = dropping D after.leaves after.nodes after.count after.counter A
 
-  goes_on_with : (l : List ℕ) → as_awaited (t 6) l ≡ true → hears D (record { tablet = x; talk = t 6; end = 0 }) l ≡ set_out after next_plan
+  goes_on_with : (l : List ℕ) → as_awaited (t 6) l ≡ true → hears D (record { tablet = x; talk = t 6; end = GoesOn }) l ≡ set_out after next_plan
   unfolding swapping plain_plan
   goes_on_with l e =
       hears_swapped D s x (t 6) l e refl refl

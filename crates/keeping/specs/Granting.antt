@@ -1,7 +1,6 @@
 -- What a wish comes to that the tablet does not refuse: its lines, each answered by the module and its reply heard, are honest lines of
 -- `runs` that do just the wish, and afterwards tablet and module agree again.
-use Rattle.std.specs.Prelude.{◌≡◌, true, false, List, [], ℕ, ◌≤◌, ◌<◌, eqb, length}
-use Rattle.seqs.specs.Choose.{pick}
+use Rattle.std.specs.Prelude.{◌≡◌, true, false, Result, Ok, IsOk, List, [], ℕ, ◌≤◌, ◌<◌, length}
 use Rattle.seqs.specs.Bytes.{Bytes}
 use Rattle.sha256.specs.Hash.{sha256}
 use Rattle.paper.specs.declared.Registers.{Registers}
@@ -18,9 +17,12 @@ use Rattle.rows.specs.declared.Row.{Row}
 use Rattle.ringed.specs.Ringed.{list_of}
 use Rattle.wishes.specs.declared.Wish.{Wish}
 use Rattle.wishes.specs.declared.Wish.TheVariants.{Insert, Remove, Set, Clear, Ask}
-use Rattle.plans.specs.declared.Begun.{Begun}
+use Rattle.wishes.specs.declared.Refused.{Refused}
+use Rattle.plans.specs.declared.Plan.{Plan}
 use Rattle.plans.specs.Plans.{begun_for}
+use Rattle.hearing.specs.declared.End.TheVariants.{Done}
 use Rattle.hearing.specs.Awaiting.{as_awaited, refusal_in}
+use Rattle.hearing.specs.Hearing.{otherwise}
 use Rattle.holding.specs.Holding.{Holds}
 use Rattle.keeping.specs.Talking.{Tablet, Underway, set_out, hears, Conversed, converse}
 use Rattle.keeping.specs.Agreeing.{Agrees}
@@ -62,14 +64,14 @@ abbrev pub beginning_at : Registers → List Row → World
 beginning_at s rs = record { registers = s; formed = []; book = []; items = list_of rs; changed = s.counter.0 }
 
 module _ (D : List ℕ → Dig) where
-  -- the tablet's word and plan for a wish
-  abbrev pub begins : Tablet → Wish → Begun
+  -- the tablet's plan for a wish, or the word by which it refuses
+  abbrev pub begins : Tablet → Wish → Result Plan Refused
   begins x v = begun_for D x.leaves x.nodes x.count x.counter v
 
   -- a conversation that began at the world w grants the wish v: it has ended well, the lines sent led to its world and were honest, list
   -- and registers are those wanted, the root being the one that memory then has, memory holds that list, and a question is answered truly
   pub record Grants (w : World) (v : Wish) (c : Conversed D) : Type 0 where
-    pub ended : c.wish.end ≡ 1
+    pub ended : c.wish.end ≡ Done
     pub led : fed D w c.sent ≡ c.world
     pub honest : HonestTurns D w c.sent
     pub items : c.world.items ≡ items_after w.registers w.items (wish_of v)
@@ -95,28 +97,28 @@ module _ (D : List ℕ → Dig) where
       → Holds D rs x.leaves x.nodes x.count → node_at x.nodes 1 ≡ s.root → x.counter ≡ s.counter → Together (beginning_at s rs) x
 
   -- a wish that the tablet does not refuse is granted, with as many turns as its lines are or more; and they are together again
-  pub record WishGranted (w : World) (x : Tablet) (v : Wish) (n : ℕ) : Type 0 where
-    pub grants : Grants w v (converse D n w (set_out x (begins x v).plan))
-    pub together : (let c = converse D n w (set_out x (begins x v).plan) in Together c.world c.wish.tablet)
+  pub record WishGranted (w : World) (x : Tablet) (v : Wish) (p : Plan) (n : ℕ) : Type 0 where
+    pub grants : Grants w v (converse D n w (set_out x p))
+    pub together : (let c = converse D n w (set_out x p) in Together c.world c.wish.tablet)
 
   abbrev pub EveryWishGranted : Type 0
   EveryWishGranted =
-      (w : World) (x : Tablet) → Together w x → (v : Wish) → WishFits v → (begins x v).word ≡ 0 → (n : ℕ) → most_lines v ≤ n
-      → WishGranted w x v n
+      (w : World) (x : Tablet) → Together w x → (v : Wish) → WishFits v → (p : Plan) → begins x v ≡ Ok p → (n : ℕ) → most_lines v ≤ n
+      → WishGranted w x v p n
 
   -- the tablet refuses by itself just what is not legal, a 1,025th item, and a change with the counter at its top
   pub record RefusesJust : Type 0 where
-    pub possible : (w : World) (x : Tablet) → Together w x → (v : Wish) → WishFits v → (begins x v).word ≡ 0
+    pub possible : (w : World) (x : Tablet) → Together w x → (v : Wish) → WishFits v → IsOk (begins x v)
         → LegalWish w.items (wish_of v) × Within w x v
     pub allowed : (w : World) (x : Tablet) → Together w x → (v : Wish) → LegalWish w.items (wish_of v) → Within w x v
-        → (begins x v).word ≡ 0
+        → IsOk (begins x v)
 
   -- Any line that is not the reply awaited, whatever its bytes, ends the wish and changes nothing of the tablet: told as the module's
-  -- refusal (2) where it is one, and else as something that the module should not have said (3).
+  -- refusal where it is one, and else as something that the module should not have said.
   abbrev pub OtherRepliesTold : Type 0
   OtherRepliesTold =
       (u : Underway) (l : List ℕ) → as_awaited u.talk l ≡ false
-      → ((hears D u l).tablet ≡ u.tablet) × ((hears D u l).end ≡ pick (eqb (refusal_in l) 0) 3 2)
+      → ((hears D u l).tablet ≡ u.tablet) × ((hears D u l).end ≡ otherwise (refusal_in l))
 
   pub record KeepsHonestly : Type 0 where
     pub anywhere : StartTogether

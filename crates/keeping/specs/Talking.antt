@@ -1,6 +1,6 @@
 -- The tablet's conversation with the module: the line that it makes goes to the module, the module's reply line goes back to it, and so on
 -- until the wish has ended.
-use Rattle.std.specs.Prelude.{List, [], ◌∷◌, ℕ, zero, suc, eqb}
+use Rattle.std.specs.Prelude.{Bool, true, false, List, [], ◌∷◌, ℕ, zero, suc}
 use Rattle.seqs.specs.Choose.{pick}
 use Rattle.hexadecimal.specs.Hex.{digits_of}
 use Rattle.paper.specs.declared.Revision.{Revision}
@@ -10,6 +10,8 @@ use Rattle.runs.specs.Frames.{turn_of}
 use Rattle.plans.specs.declared.Plan.{Plan}
 use Rattle.asking.specs.declared.Talk.{Talk}
 use Rattle.asking.specs.Saying.{start_of, request_at}
+use Rattle.hearing.specs.declared.End.{End}
+use Rattle.hearing.specs.declared.End.TheVariants.{GoesOn, Done, Refused, Otherwise}
 use Rattle.hearing.specs.Hearing.{heard_from, leaves_heard, nodes_heard}
 
 -- what the tablet has: how many leaves, the counter that the module gave last, and memory
@@ -19,14 +21,21 @@ pub record Tablet : Type 0 where
   pub leaves : List ℕ
   pub nodes : List ℕ
 
--- a wish on its way: the tablet, the talk, and how it ended; 0 as long as it goes on
+-- as long as a wish goes on
+abbrev pub goes_on : End → Bool
+goes_on GoesOn = true
+goes_on Done = false
+goes_on (Refused r) = false
+goes_on Otherwise = false
+
+-- a wish on its way: the tablet, the talk, and how it stands
 pub record Underway : Type 0 where
   pub tablet : Tablet
   pub talk : Talk
-  pub end : ℕ
+  pub end : End
 
 abbrev pub set_out : Tablet → Plan → Underway
-set_out x p = record { tablet = x; talk = start_of p; end = 0 }
+set_out x p = record { tablet = x; talk = start_of p; end = GoesOn }
 
 -- the line that goes out, as `asking::line` writes it, but for its 0A
 abbrev pub says_now : Underway → LineTurn
@@ -61,6 +70,6 @@ module _ (D : List ℕ → Dig) where
   abbrev pub converse : (turns : ℕ) → World → Underway → Conversed
   converse zero w u = record { world = w; wish = u; sent = [] }
   converse (suc n) w u =
-      pick (eqb u.end 0)
+      pick (goes_on u.end)
       (sent_first (says_now u) (converse n (next D last w (says_now u)) (hears u (digits_of (told_at D w (says_now u)).says))))
       (record { world = w; wish = u; sent = [] })

@@ -1,7 +1,7 @@
 -- What the program's functions ask of each other and promise each other: the bytes that may be written, the states that a call
 -- may start from, and what the loop over a piece of input hands on.
 -- Of the bytes that a call of the system writes no contract can speak: what is demanded here of the caller stands for that.
-use Rattle.std.specs.Prelude.{◌≡◌, true, List, ℕ, ◌<◌, ◌≤◌, length}
+use Rattle.std.specs.Prelude.{◌≡◌, List, ℕ, ◌<◌, ◌≤◌, length}
 use Rattle.pieces.specs.Feeding.{feed_bytes}
 use Rattle.pieces.specs.Whole.{ended_in}
 use Rattle.paper.specs.declared.Registers.{Registers}
@@ -37,8 +37,8 @@ pub record Standing (s : Registers) (d : List ℕ) (n : ℕ) : Type 0 where
 
 -- ── a piece ──
 
--- The piece p was gone through from registers s, with n bytes of a line held in d. Where its replies could be written, the
+-- The piece p was gone through from registers s, with n bytes of a line held in d, and its replies were written: the
 -- registers, the line's space and what is held of it are those of a session that took the piece.
 pub record Through (s : Registers) (p d : List ℕ) (n : ℕ) (o : Left) (d' : List ℕ) : Type 0 where
   pub fits : o.held ≤ length d
-  pub came : o.said ≡ true → session_with o.registers d' o.held ≡ feed_bytes carrying p (session_with s d n)
+  pub came : session_with o.registers d' o.held ≡ feed_bytes carrying p (session_with s d n)

@@ -13,6 +13,8 @@ use Rattle.seqs.specs.Choose.{pick, both_true, either, opposite}
 use Rattle.seqs.specs.Bytes.{number_at, number_at_lem}
 use Rattle.hexadecimal.specs.Hex.{bytes_of}
 use Rattle.paper.specs.Requests.{kinds, kind_of, known, fits}
+use Rattle.paper.specs.declared.Kind.{Kind}
+use Rattle.paper.specs.Numbers.{kind_number}
 use Rattle.paper.specs.Refusals.{is_hex, refused_by, all_passed, judge, before_siblings}
 use Rattle.paper.specs.Module.{refusal_of, frame_checks, is_writable, read_refusal, write_refusal}
 use Rattle.paper.proofs.Frames as F
@@ -91,14 +93,35 @@ fits_by_kind f (no n) l k =
     F.fits_path f e ∙ path_by f (ℕ_discrete (length f) (before_siblings + 32 * F.count_at f))
     ∙ ap (λ (i : ℕ). fitting i (length f) (get_or f 65 0) (number_at f 66)) (sym e)
 
-own_by : (f : List ℕ) (t : Bool) → known (kind_of f) ≡ t → own f ≡ refusal_by (kind_of f) (length f) (get_or f 65 0) (number_at f 66)
+pub known_kind : (k : Kind) → known (kind_number k) ≡ true
+unfolding known kinds
+known_kind Kind.Path = refl
+known_kind Kind.Witness = refl
+known_kind Kind.Join = refl
+known_kind Kind.Pair = refl
+known_kind Kind.Raise = refl
+known_kind Kind.Swap = refl
+known_kind Kind.First = refl
+known_kind Kind.Place = refl
+known_kind Kind.Turn = refl
+known_kind Kind.Chain = refl
+known_kind Kind.Adopt = refl
+known_kind Kind.Set = refl
+known_kind Kind.Clear = refl
+known_kind Kind.Ask = refl
+known_kind Kind.AskNone = refl
+known_kind Kind.Open = refl
+
+own_by_known : (f : List ℕ) (t : Bool) → known (kind_of f) ≡ t → own f ≡ refusal_by (kind_of f) (length f) (get_or f 65 0) (number_at f 66)
 unfolding refusal_by
-own_by f false h = frame_by f ∙ rw h
-own_by f true h =
+own_by_known f false h = frame_by f ∙ rw h
+own_by_known f true h =
     let p = known_range (kind_of f) h in
     frame_by f ∙ rw (fits_by_kind f (dec_lt 1 (kind_of f)) p.0 p.1)
 
--- a frame's own refusal, as a call found it by its numbers
-pub own_found : (f : List ℕ) {k size n sides : ℕ} → k ≡ kind_of f → size ≡ length f → n ≡ get_or f 65 0 → sides ≡ number_at f 66
-    → refusal_by k size n sides ≡ own f
-own_found f ek el en es = (λ i. refusal_by (ek i) (el i) (en i) (es i)) ∙ sym (own_by f (known (kind_of f)) refl)
+-- a frame's own refusal, by its numbers
+abbrev pub checked : List ℕ → ℕ
+checked f = refusal_by (kind_of f) (length f) (get_or f 65 0) (number_at f 66)
+
+pub own_by : (f : List ℕ) → checked f ≡ own f
+own_by f = sym (own_by_known f (known (kind_of f)) refl)

@@ -14,20 +14,20 @@ use Rattle.paper.specs.Refusals.{Check, Passed, FirstToApply}
 use Rattle.paper.specs.Module.{line_order, read_checks, write_checks, read_refusal, write_refusal}
 use Rattle.paper.proofs.Early.{among}
 use Rattle.paper.proofs.Verdicts.{first_of, refusal_first, first_given, first_only_lem, passed_none}
-use Rattle.lines.specs.declared.Read.TheVariants.{Frame, Refused}
-use Rattle.lines.specs.declared.Wrote.TheVariants.{Line, Rejected}
-use Rattle.lines.specs.Reading.{read_of, wrote_of}
+use Rattle.lines.specs.Reading.{Frame, Refused, Line, Rejected, read_told, read_of, wrote_told, wrote_of}
 use Rattle.lines.specs.Laws.{FirstOfFour, ReadIsFirst, WriteIsFirst}
 
--- 0 is none of the numbers
 found : (n : ℕ) (before behind : List ℕ) → among n (before ++ (n ∷ behind)) ≡ true
 found n [] behind = rw (eq-eqb n n refl)
 found n (i ∷ l) behind = rw (found n l behind) (either_yes (eqb i n))
 
+-- the first of some numbers that applies is among them
+pub among_them : (numbers : List ℕ) (cs : List Check) (n : ℕ) → FirstToApply numbers cs n → among n numbers ≡ true
+among_them numbers cs n f = ap (among n) f.in_order ∙ found n f.before f.behind
+
+-- 0 is none of these
 not_zero_lem : (cs : List Check) (n : ℕ) → FirstToApply line_order cs n → n ≡ 0 → ⊥
-not_zero_lem cs n f e =
-    true≢false
-    (sym (found n f.before f.behind) ∙ ap (among n) (sym f.in_order) ∙ ap (λ (m : ℕ). among m line_order) e)
+not_zero_lem cs n f e = true≢false (sym (among_them line_order cs n f) ∙ ap (λ (m : ℕ). among m line_order) e)
 
 -- an answer by the number: the accepting one at 0, and else the refusal by that number
 module _ {A : Type 0} (accepts : A) (refuses : ℕ → A) (cs : List Check) where
@@ -60,7 +60,7 @@ read_chosen line space =
 
 pub read_is_first : ReadIsFirst
 read_is_first line space after r p =
-    first_by (Frame (kind_of (bytes_of line)) (length (bytes_of line))) (λ n. Refused n) (read_checks line (length space)) r
+    first_by (Frame (kind_of (bytes_of line)) (length (bytes_of line))) (λ n. Refused n) (read_checks line (length space)) (read_told r)
     (p.returned ∙ read_chosen line (length space))
 
 write_chosen : (f : List ℕ) (space : ℕ) → wrote_of f space
@@ -72,5 +72,5 @@ write_chosen f space =
 
 pub write_is_first : WriteIsFirst
 write_is_first f space after r p =
-    first_by (Line (2 * length f + 1)) (λ n. Rejected n) (write_checks f (length space)) r
+    first_by (Line (2 * length f + 1)) (λ n. Rejected n) (write_checks f (length space)) (wrote_told r)
     (p.returned ∙ write_chosen f (length space))

@@ -2,22 +2,23 @@
 use mathlib.Core.Path.{◌≡◌, refl, sym, ap, ◌∙◌}
 use mathlib.Core.Bool.{Bool, true, false}
 use mathlib.Core.List.{List}
-use Prim.Native.Nat.{ℕ, ◌+◌, ◌*◌, ◌%◌, ◌≤◌, ◌<◌}
+use Prim.Native.Nat.{ℕ, ◌+◌, ◌*◌, ◌/◌, ◌%◌, ◌≤◌, ◌<◌}
 use native.Mathlib.Omega.{arith}
 use native.Mathlib.Decide.{dec_le}
-use borrow.Author.Tests.{ne_eqb, lt-ltb, le-ltb}
-use lib.Dec.{eqb, ltb}
+use borrow.Author.Tests.{ne_eqb, lt-ltb, le-ltb, leb-true, leb-false}
+use lib.Dec.{eqb, leb, ltb}
 use lib.ListN.{length, take}
 use lib.Seq.{take_all, length-take-le}
 use Rattle.seqs.specs.Choose.{pick, opposite, either_yes}
 use Rattle.hexadecimal.specs.Hex.{bytes_of}
 use Rattle.paper.specs.Requests.{kind_of, known, fits}
+use Rattle.paper.specs.declared.Refusal.{Refusal}
+use Rattle.paper.specs.Numbers.{refusal_number}
 use Rattle.paper.specs.Refusals.{is_hex, longest_line}
 use Rattle.paper.specs.Module.{is_writable, read_refusal, write_refusal}
-use Rattle.lines.specs.declared.Read.TheVariants.{Frame, Refused}
-use Rattle.lines.specs.declared.Wrote.TheVariants.{Line, Rejected}
-use Rattle.lines.specs.Reading.{read_of, wrote_of}
-use Rattle.lines.proofs.Fitting.{first_of, read_by, write_by, own, frame_by}
+use Rattle.lines.specs.Reading.{Frame, Refused, Line, Rejected, read_of, wrote_of}
+use Rattle.hexadecimal.proofs.Laws.{bytes_length}
+use Rattle.lines.proofs.Fitting.{first_of, read_by, write_by, own, frame_by, checked, own_by}
 
 -- the tests in turn: of the line or the frame's size, the frame's own refusal, and of the room
 abbrev pub in_turn : Bool → ℕ → Bool → ℕ
@@ -35,6 +36,25 @@ in_turn_lem a d f = rw (frame_by f) (turns a (opposite (known (kind_of f))) (opp
 -- accepted where there is no refusal
 abbrev outcome : {A : Type 0} → A → (ℕ → A) → ℕ → A
 outcome good bad n = pick (eqb n 0) good (bad n)
+
+-- a refusal has a number
+pub refusal_some : (e : Refusal) → ¬ (refusal_number e ≡ 0)
+refusal_some Refusal.Line h = absurd (omega arith)
+refusal_some Refusal.Kind h = absurd (omega arith)
+refusal_some Refusal.Frame h = absurd (omega arith)
+refusal_some Refusal.Zero h = absurd (omega arith)
+refusal_some Refusal.Malformed h = absurd (omega arith)
+refusal_some Refusal.Gap h = absurd (omega arith)
+refusal_some Refusal.Top h = absurd (omega arith)
+refusal_some Refusal.First h = absurd (omega arith)
+refusal_some Refusal.Second h = absurd (omega arith)
+refusal_some Refusal.Stale h = absurd (omega arith)
+refusal_some Refusal.Empty h = absurd (omega arith)
+refusal_some Refusal.Secret h = absurd (omega arith)
+refusal_some Refusal.Unopened h = absurd (omega arith)
+refusal_some Refusal.Opened h = absurd (omega arith)
+refusal_some Refusal.Room h = absurd (omega arith)
+refusal_some Refusal.Mass h = absurd (omega arith)
 
 module _ (line : List ℕ) (space : ℕ) where
   abbrev f : List ℕ
@@ -82,6 +102,34 @@ module _ (f : List ℕ) (space : ℕ) where
 
     pub write_line : own f ≡ 0 → 2 * length f + 1 ≤ space → wrote_of f space ≡ Line (2 * length f + 1)
     write_line e h = write_is ∙ rw (size, e, le-ltb space (2 * length f + 1) h)
+
+-- ── by what the callees found ──
+module _ (line : List ℕ) (space : ℕ) (hex : (is_hex line).fails ≡ false) where
+  pub refused_found : (e : Refusal) → refusal_number e ≡ checked (bytes_of line) → read_of line space ≡ Refused (refusal_number e)
+  refused_found e h =
+      let o = h ∙ own_by (bytes_of line) in
+      read_own line space hex (λ z. refusal_some e (o ∙ z)) ∙ ap (λ (n : ℕ). Refused n) (sym o)
+
+  pub no_room_found : checked (bytes_of line) ≡ 0 → leb (length line / 2) space ≡ false → read_of line space ≡ Refused 15
+  no_room_found z h = read_15 line space hex (sym (own_by (bytes_of line)) ∙ z) (rw (bytes_length line) (leb-false (length line / 2) space h))
+
+  pub frame_found : checked (bytes_of line) ≡ 0 → leb (length line / 2) space ≡ true
+      → read_of line space ≡ Frame (kind_of (bytes_of line)) (length line / 2)
+  frame_found z h =
+      read_frame line space hex (sym (own_by (bytes_of line)) ∙ z) (rw (bytes_length line) (leb-true (length line / 2) space h))
+      ∙ ap (λ (n : ℕ). Frame (kind_of (bytes_of line)) n) (bytes_length line)
+
+module _ (f : List ℕ) (space : ℕ) (size : (is_writable f).fails ≡ false) where
+  pub rejected_found : (e : Refusal) → refusal_number e ≡ checked f → wrote_of f space ≡ Rejected (refusal_number e)
+  rejected_found e h =
+      let o = h ∙ own_by f in
+      write_own f space size (λ z. refusal_some e (o ∙ z)) ∙ ap (λ (n : ℕ). Rejected n) (sym o)
+
+  pub no_line_found : checked f ≡ 0 → leb (2 * length f + 1) space ≡ false → wrote_of f space ≡ Rejected 15
+  no_line_found z h = write_15 f space size (sym (own_by f) ∙ z) (leb-false (2 * length f + 1) space h)
+
+  pub line_found : checked f ≡ 0 → leb (2 * length f + 1) space ≡ true → wrote_of f space ≡ Line (2 * length f + 1)
+  line_found z h = write_line f space size (sym (own_by f) ∙ z) (leb-true (2 * length f + 1) space h)
 
 -- ── a line that is too long ──
 

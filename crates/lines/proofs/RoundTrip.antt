@@ -14,11 +14,7 @@ use Rattle.hexadecimal.proofs.Laws.{bytes_of_digits, digits_of_bytes, digits_all
 use Rattle.paper.specs.Requests.{kind_of}
 use Rattle.paper.specs.Refusals.{is_hex, longest_frame, longest_line}
 use Rattle.paper.specs.Module.{is_writable, read_refusal, write_refusal}
-use Rattle.lines.specs.declared.Read.{Read}
-use Rattle.lines.specs.declared.Read.TheVariants.{Frame, Refused}
-use Rattle.lines.specs.declared.Wrote.{Wrote}
-use Rattle.lines.specs.declared.Wrote.TheVariants.{Line, Rejected}
-use Rattle.lines.specs.Reading.{read_of, frame_after, wrote_of, line_after}
+use Rattle.lines.specs.Reading.{Read, Frame, Refused, Wrote, Line, Rejected, read_of, frame_after, wrote_of, line_after}
 use Rattle.lines.specs.RoundTrip.{WrittenReads, ReadWrites, OneLine}
 use Rattle.lines.proofs.Fitting.{own}
 use Rattle.lines.proofs.Outcomes.{read_turns, read_frame, write_turns, write_line}

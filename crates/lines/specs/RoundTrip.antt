@@ -4,9 +4,7 @@ use Rattle.std.specs.Prelude.{◌≡◌, List, [], ◌∷◌, ◌++◌, ℕ, ◌
 use Rattle.seqs.specs.Bytes.{Bytes}
 use Rattle.hexadecimal.specs.Hex.{bytes_of}
 use Rattle.paper.specs.Requests.{kind_of}
-use Rattle.lines.specs.declared.Read.TheVariants.{Frame}
-use Rattle.lines.specs.declared.Wrote.TheVariants.{Line}
-use Rattle.lines.specs.Reading.{read_of, frame_after, wrote_of, line_after}
+use Rattle.lines.specs.Reading.{Frame, Line, read_of, frame_after, wrote_of, line_after}
 
 -- A frame f of bytes was written into the space d, n bytes with its 0A. Then a line l and 0A stand there, and reading
 -- l into any space e that has room gives f's kind and length and puts f there.

@@ -1,22 +1,18 @@
 -- Leaves put one after the other, turn by turn; the line of a leaf of a text that can be read; and lengths that stay.
 use mathlib.Core.Path.{◌≡◌, refl, ap, ◌∙◌}
-use mathlib.Core.Bool.{true, false}
 use mathlib.Core.List.{List, [], ◌∷◌}
-use mathlib.Core.Logic.{◌≢◌}
 use Prim.Native.Nat.{ℕ, suc, ◌+◌, ◌*◌, ◌<◌, ◌≤◌}
 use native.Mathlib.Omega.{arith}
-use borrow.Author.Tests.{le-leb, lt-leb, eq-eqb, ne_eqb}
 use lib.ListN.{length, drop, drop_of_length-le}
 use lib.Seq.{drop-cons}
 use Rattle.paper.specs.Strings.{Dig}
-use Rattle.seqs.specs.Choose.{both_no}
 use Rattle.seqs.specs.Over.{put_length}
 use Rattle.slots.specs.Nodes.{leaf_put}
 use Rattle.slots.proofs.Turns.{leaf_length}
 use Rattle.rows.specs.declared.Row.{Row}
-use Rattle.rows.specs.Rows.{row_at, row_numbers, numbers_in, row_put}
+use Rattle.rows.specs.Rows.{row_at, row_numbers, row_digest, numbers_in, row_put}
 use Rattle.rows.specs.Pairs.{row_of}
-use Rattle.memory.specs.Memory.{row_digest, leaves_put, digests_put, has_room}
+use Rattle.memory.specs.Memory.{leaves_put, digests_put}
 
 -- ── a turn, and the end ──
 
@@ -53,18 +49,3 @@ leaves_length (r ∷ l) i m = leaves_length l (i + 1) (row_put m i r) ∙ row_le
 pub digests_length : (D : List ℕ → Dig) (rs : List Row) (i : ℕ) (m : List ℕ) → length (digests_put D rs i m) ≡ length m
 digests_length D [] i m = refl
 digests_length D (r ∷ l) i m = digests_length D l (i + 1) (leaf_put D m i (row_digest D r)) ∙ leaf_length D m i (row_digest D r)
-
--- ── room ──
-
-module _ (leaves nodes : List ℕ) where
-  pub room_there : 6144 ≤ length leaves → length nodes ≡ 65536 → has_room leaves nodes ≡ true
-  unfolding has_room
-  room_there h e = rw (le-leb 6144 (length leaves) h, eq-eqb (length nodes) 65536 e)
-
-  pub few_numbers : length leaves < 6144 → has_room leaves nodes ≡ false
-  unfolding has_room
-  few_numbers h = rw (lt-leb 6144 (length leaves) h)
-
-  pub other_nodes : length nodes ≢ 65536 → has_room leaves nodes ≡ false
-  unfolding has_room
-  other_nodes n = rw (ne_eqb (length nodes) 65536 n, both_no)

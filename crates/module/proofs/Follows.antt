@@ -1,5 +1,5 @@
 -- The statements of `specs/Laws`.
-use mathlib.Core.Path.{◌≡◌, refl, sym, ap, subst, ◌∙◌}
+use mathlib.Core.Path.{◌≡◌, refl, sym, ap, ◌∙◌}
 use mathlib.Core.List.{List, [], ◌∷◌, ◌++◌}
 use mathlib.Core.Bool.{Bool, true, false}
 use mathlib.Core.Logic.{◌⊎◌, inl, inr}
@@ -24,15 +24,22 @@ use Rattle.paper.specs.ByHand.{SpaceOf195}
 use Rattle.paper.proofs.Room.{room}
 use Rattle.paper.proofs.Ceilings.{ceilings}
 use Rattle.paper.proofs.Older.{older_gets_8}
+use Rattle.lines.proofs.Follows.{among_them}
+use Rattle.paper.proofs.Early.{among}
+use Rattle.replies.specs.Outcomes.{number_told}
+use Rattle.std.proofs.Common.{None, Some, true≢false}
 use Rattle.module.proofs.Laws.{with_room, is_hex_lem}
 use Rattle.module.specs.declared.Answered.{Answered}
-use Rattle.module.specs.declared.Replied.{Replied}
 use Rattle.module.specs.Answering.{answered_of}
 use Rattle.module.specs.Laws.{RefusalKeeps, RefusalIsFirst, OnlyTheReply, ReplyFits, OneOutcome, OneOutcomeHere, UnderTheCeiling, OlderMemorandum, SecretOpens, RefusingBreaks}
 
--- what comes back beside the registers
-abbrev replied_of : Answered → Replied
-replied_of x = record { refused = x.refused; length = x.length; blocks = x.blocks }
+told_some : (n : ℕ) → (n ≡ 0 → ⊥) → number_told n ≡ Some n
+told_some zero h = absurd (h refl)
+told_some (suc n) h = refl
+
+-- 0 is none of the numbers
+not_zero_lem : (cs : List Check) (n : ℕ) → FirstToApply order cs n → n ≡ 0 → ⊥
+not_zero_lem cs n f e = true≢false (sym (among_them order cs n f) ∙ ap (λ (m : ℕ). among m order) e)
 
 kept : (s : Registers) (k : ℕ) (q : Q.Request) (v : Verdict) → ((told_by sha256 s k q v).refusal ≡ 0 → ⊥)
     → (told_by sha256 s k q v).after ≡ s
@@ -50,7 +57,7 @@ kept_line s line space h =
 pub refusal_keeps : RefusalKeeps
 refusal_keeps s line space after o p h =
     ap (λ (x : Answered). x.registers) p.returned
-    ∙ kept_line s line (length space) (λ e. h (ap (λ (x : Answered). x.refused) p.returned ∙ e))
+    ∙ kept_line s line (length space) (λ e. h (ap (λ (x : Answered). x.reply.refused) p.returned ∙ ap number_told e))
 
 number_of_lem : (s : Registers) (line : List ℕ) (space : ℕ)
     → (answer_to sha256 s line space).refusal ≡ first_of order (checks_of sha256 s line space)
@@ -61,22 +68,29 @@ number_of_lem s line space =
 
 pub refusal_is_first : RefusalIsFirst
 refusal_is_first s line space after o p =
-    let cs : List Check = checks_of sha256 s line (length space) in
-    let e : o.refused ≡ first_of order cs =
-    ap (λ (x : Answered). x.refused) p.returned ∙ number_of_lem s line (length space) in
     record {
-      given =
-          subst (λ (n : ℕ). (Passed order cs × (n ≡ 0)) ⊎ FirstToApply order cs n) (sym e) (first_given order cs);
-      refused_when = λ n h. e ∙ first_only_lem order cs n h;
-      accepted_when = λ h. e ∙ passed_none order cs h;
+      given = either_way (first_given order cs);
+      refused_when = λ n h. e ∙ ap number_told (first_only_lem order cs n h) ∙ told_some n (not_zero_lem cs n h);
+      accepted_when = λ h. e ∙ ap number_told (passed_none order cs h);
     }
+  where
+    cs : List Check
+    cs = checks_of sha256 s line (length space)
+
+    e : o.reply.refused ≡ number_told (first_of order cs)
+    e = ap (λ (x : Answered). x.reply.refused) p.returned ∙ ap number_told (number_of_lem s line (length space))
+
+    either_way : (Passed order cs × (first_of order cs ≡ 0)) ⊎ FirstToApply order cs (first_of order cs)
+        → (Passed order cs × (o.reply.refused ≡ None)) ⊎ ((n : ℕ) × FirstToApply order cs n × (o.reply.refused ≡ Some n))
+    either_way (inl h) = inl (h.0, e ∙ ap number_told h.1)
+    either_way (inr f) = inr (first_of order cs, f, e ∙ told_some (first_of order cs) (not_zero_lem cs (first_of order cs) f))
 
 pub only_the_reply : OnlyTheReply
 only_the_reply s line space after o p =
     let t : Told = answer_to sha256 s line (length space) in
-    let n : o.length ≡ length (reply_line t) = ap (λ (x : Answered). x.length) p.returned in
-    ap (drop o.length) p.left
-    ∙ drop_at (reply_line t) (drop (length (reply_line t)) space) o.length (sym n)
+    let n : o.reply.length ≡ length (reply_line t) = ap (λ (x : Answered). x.reply.length) p.returned in
+    ap (drop o.reply.length) p.left
+    ∙ drop_at (reply_line t) (drop (length (reply_line t)) space) o.reply.length (sym n)
     ∙ ap (λ (k : ℕ). drop k space) (sym n)
 
 pub reply_fits : ReplyFits
@@ -92,15 +106,15 @@ reply_fits s line space after o p = by_room (dec_le reply_room (length space))
     nothing e = rw e refl
 
     all : length (reply_line t) ≤ length space
-        → (o.length ≤ reply_room) × (o.length ≤ length space) × (length after ≡ length space)
+        → (o.reply.length ≤ reply_room) × (o.reply.length ≤ length space) × (length after ≡ length space)
     all h =
-        let n : o.length ≡ length (reply_line t) = ap (λ (x : Answered). x.length) p.returned in
+        let n : o.reply.length ≡ length (reply_line t) = ap (λ (x : Answered). x.reply.length) p.returned in
         let m : length after ≡ length (reply_line t ++ drop (length (reply_line t)) space) = ap length p.left in
         let sum = length-append (reply_line t) (drop (length (reply_line t)) space) in
         let rest = length-drop (length (reply_line t)) space in
         (omega (arith, r.holds (length space)), omega arith, omega arith)
 
-    by_room : Dec (reply_room ≤ length space) → (o.length ≤ reply_room) × (o.length ≤ length space) × (length after ≡ length space)
+    by_room : Dec (reply_room ≤ length space) → (o.reply.length ≤ reply_room) × (o.reply.length ≤ length space) × (length after ≡ length space)
     by_room (yes h) = all (omega (arith, r.holds (length space)))
     by_room (no h) = all (omega (arith, nothing (r.too_small (length space) (omega (arith, h)))))
 
@@ -111,21 +125,21 @@ pub one_outcome_here : OneOutcomeHere
 one_outcome_here s t t' line space after after' o o' p p' =
     let e = p.returned ∙ sym p'.returned in (
       ap (λ (x : Answered). x.registers) e,
-      ap (λ (x : Answered). replied_of x) e,
+      ap (λ (x : Answered). x.reply) e,
       p.left ∙ sym p'.left,
     )
 
 pub under_the_ceiling : UnderTheCeiling
 under_the_ceiling s line space after o p =
-    let e : o.blocks ≡ cost (answer_to sha256 s line (length space)).formed = ap (λ (x : Answered). x.blocks) p.returned in
+    let e : o.reply.blocks ≡ cost (answer_to sha256 s line (length space)).formed = ap (λ (x : Answered). x.reply.blocks) p.returned in
     omega (arith, e, (ceilings sha256).line s line (length space))
 
 pub older_memorandum : OlderMemorandum
 older_memorandum s₀ s line₀ line space₀ space after o l p =
     by_law (older_gets_8 sha256 sha256_length s₀ s line₀ line (length space₀) (length space) l)
   where
-    by_law : {C : Type 0} → ((answer_to sha256 s line (length space)).refusal ≡ 8) ⊎ C → (o.refused ≡ 8) ⊎ C
-    by_law (inl e) = inl (ap (λ (x : Answered). x.refused) p.returned ∙ e)
+    by_law : {C : Type 0} → ((answer_to sha256 s line (length space)).refusal ≡ 8) ⊎ C → (o.reply.refused ≡ Some 8) ⊎ C
+    by_law (inl e) = inl (ap (λ (x : Answered). x.reply.refused) p.returned ∙ ap number_told e)
     by_law (inr c) = inr c
 
 -- ── opening ──
@@ -164,7 +178,7 @@ pub opens : SecretOpens
 opens s k space after o h n bs z r p =
     let e : o ≡ answered_of (told_by sha256 s 0x10 (Q.unlock k) (all_passed [])) =
     p.returned ∙ ap answered_of (accepted k n bs z s (length space) h r) in
-    (ap (λ (x : Answered). x.refused) e, ap (λ (x : Answered). x.registers) e)
+    (ap (λ (x : Answered). x.reply.refused) e, ap (λ (x : Answered). x.registers) e)
 
 ones : (n : ℕ) → Bytes (replicate n 1)
 ones zero = tt
@@ -185,7 +199,7 @@ refusing_breaks m keeps s refuses = by_open s.opened refl
     by_open true h =
         let space : List ℕ = replicate reply_room 0 in
         let line = digits_of level_path in
-        refuses line space (ap (λ (x : Answered). x.refused) (keeps s line space).returned ∙ level_accepted s h)
+        refuses line space (ap (λ (x : Answered). x.reply.refused) (keeps s line space).returned ∙ ap number_told (level_accepted s h))
     by_open false h =
         let space : List ℕ = replicate reply_room 0 in
         let k : Dig = replicate 32 1 in

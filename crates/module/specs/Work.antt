@@ -1,7 +1,6 @@
 -- What private functions promise one another.
 use Rattle.std.specs.Prelude.{ℕ}
-use Rattle.lines.specs.declared.Read.{Read}
-use Rattle.lines.specs.declared.Read.TheVariants.{Frame, Refused}
+use Rattle.lines.specs.Reading.{Read, Frame, Refused}
 
 -- the number of a refusal, 0 where there is none
 unfoldable pub refusal_in : Read → ℕ

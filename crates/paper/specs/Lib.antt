@@ -1,6 +1,7 @@
 pub mod Strings
 pub mod Requests
 pub mod Refusals
+pub mod Numbers
 pub mod Answers
 pub mod Carrying
 pub mod Module

@@ -1,5 +1,5 @@
 -- The table of kinds (docs/PROTOCOL.md, 5.1), what each carries, and a frame read as a request.
-use Rattle.std.specs.Prelude.{Bool, true, List, [], ◌∷◌, ◌++◌, ℕ, zero, suc, ◌+◌, ◌-◌, ◌*◌, ◌/◌, ◌^◌, eqb, leb, length, get_or, take, drop}
+use Rattle.std.specs.Prelude.{Bool, true, List, [], ◌∷◌, ℕ, zero, suc, ◌+◌, ◌-◌, ◌*◌, ◌/◌, ◌^◌, eqb, leb, length, get_or, take, drop}
 use Rattle.seqs.specs.Choose.{both}
 use Rattle.seqs.specs.Bytes.{number_of}
 use Rattle.paper.specs.declared.Record.{Record}

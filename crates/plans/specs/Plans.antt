@@ -1,25 +1,25 @@
 -- What a wish comes to in memory: its lines, the leaf concerned, what changes in the tree, and what memory is to hold once the module
 -- has accepted. For any digest D.
-use Rattle.std.specs.Prelude.{List, ℕ, ◌+◌, ◌-◌, eqb, leb}
+use Rattle.std.specs.Prelude.{List, ℕ, ◌+◌, ◌-◌, eqb, leb, Result}
 use Rattle.seqs.specs.Choose.{pick}
 use Rattle.paper.specs.declared.Item.{Item}
 use Rattle.paper.specs.declared.Record.{Record}
 use Rattle.paper.specs.declared.Revision.{Revision}
 use Rattle.paper.specs.declared.Values.{Values}
-use Rattle.paper.specs.Strings.{Dig, nought, empty_record, record_hash, digest_of}
-use Rattle.paper.specs.Refusals.{top, leaf_of}
+use Rattle.paper.specs.Strings.{Dig, nought, empty_record, record_hash}
+use Rattle.paper.specs.Refusals.{top}
 use Rattle.slots.specs.Nodes.{slot_count, node_at}
 use Rattle.rows.specs.declared.Row.{Row}
-use Rattle.rows.specs.Rows.{row_at, seek, leading_to, gap_of, telling}
+use Rattle.rows.specs.Rows.{row_at, row_digest, seek, leading_to, gap_of, telling}
 use Rattle.edits.specs.declared.Change.{Change}
 use Rattle.edits.specs.Changes.{no_place, still_place, one_place, two_places}
 use Rattle.wishes.specs.declared.Wish.{Wish}
+use Rattle.wishes.specs.declared.Refused.{Refused}
 use Rattle.wishes.specs.declared.Wish.TheVariants.{Insert, Remove, Set, Clear, Ask}
 use Rattle.plans.specs.declared.Script.{Script}
 use Rattle.plans.specs.declared.Script.TheVariants.{AskOfNone, Asking, Setting, Clearing, Beginning, Inserting, Swapping, Dropping, Emptying}
 use Rattle.plans.specs.declared.Plan.{Plan}
-use Rattle.plans.specs.declared.Begun.{Begun}
-use Rattle.wishes.specs.Words.{own_place, word_for}
+use Rattle.wishes.specs.Words.{own_place, unless, word_for}
 
 -- ── small values ──
 
@@ -42,10 +42,6 @@ raised_counter c = pick (eqb c.0 top) c (record { 0 = c.0 + 1 })
 -- the record that a set leaves
 abbrev pub record_after : Revision → Values → Record
 record_after c v = record { revision = raised_counter c; mass = v.mass; offset = v.offset; rigging = v.rigging }
-
--- the digest of a leaf
-unfoldable pub row_digest : (D : List ℕ → Dig) → Row → Dig
-row_digest D r = digest_of D (leaf_of D r.item.0 r.next.0 r.entry)
 
 -- ── plans ──
 
@@ -146,6 +142,6 @@ module _ (D : List ℕ → Dig) (leaves nodes : List ℕ) (k : ℕ) (c : Revisio
   plan_for (Clear A) = rewritten Clearing A no_values empty_record
   plan_for (Ask q) = asked leaves nodes k c q
 
-  -- the word, and the plan where there is none
-  unfoldable pub begun_for : Wish → Begun
-  begun_for x = let w = word_for leaves k c.0 x in record { word = w; plan = pick (eqb w 0) (plan_for x) no_plan }
+  -- its plan, unless a word refuses it
+  unfoldable pub begun_for : Wish → Result Plan Refused
+  begun_for x = unless (word_for leaves k c.0 x) (plan_for x)

@@ -1,55 +1,97 @@
-// Kinds 06 to 0a: which roots stand for equally good rings. Each function answers a frame of its kind, on registers by value.
+//! Kinds 06 to 0a: which roots stand for equally good rings. Each public function answers a frame of its kind, on registers by value.
 #![tactic(auto)]
 
-ghost use Rattle.std.specs.Prelude.{◌≡◌};
+ghost use Rattle.std.specs.Prelude.{◌≡◌, [], ◌∷◌};
 ghost use Rattle.sha256.specs.Hash.{sha256};
-ghost use Rattle.paper.specs.Refusals.{first_memo, place_forms, place_says};
+ghost use Rattle.paper.specs.Strings as S;
+ghost use Rattle.paper.specs.Requests as Q;
 ghost use Rattle.replies.specs.Outcomes.{outcome_for};
-ghost use Rattle.checks.specs.Steps.{CheckMade};
+ghost use Rattle.checks.specs.Steps.{blocks_more, outcome_at, row};
 ghost use Rattle.places.specs.Places.{request_at};
 
-use checks::{Judged, begin_open, compare, compare_either, issue, refuse_if, refuse_unless, work};
-use digests::{ei, u2};
-use paper::{Item, Registers};
+use checks::Desk;
+use digests::Memo;
+use paper::{Item, Kind, Refusal, Registers};
 use places::{FIELDS, NUMBER, digest, item};
 use replies::Outcome;
 
-// 06: x1, x2, y, y', m; m is U2(x1,x2,y,x2,x1,y'); answers EI(y,y').
+/// No leaf, no record, no tree.
+const NONE: [u8; 32] = [0; 32];
+
+// The public functions are kept out of line: together they would be one, with room on the stack for what each of them needs.
+// A row's function is lent its desk, as the blocks have to outlive a `?`; that none are counted yet is a clause of each, since a type for
+// such a desk would be another after the first check. What it takes are the fields of its kind's row of the table, one by one.
+
+/// The row of 06: m is U2(x1,x2,y,x2,x1,y'); answers EI(y,y').
+fn swap_row(
+    desk: &mut Desk,
+    x1: [u8; 32],
+    x2: [u8; 32],
+    y: [u8; 32],
+    yn: [u8; 32],
+    m: [u8; 32],
+) -> Result<[u8; 32], Refusal>
+    requires { desk.old.blocks ≡ 0 }
+    ensures { outcome_at 6 result desk.new ≡ row desk.old.registers 6 (Q.swap x1 x2 y yn m) }
+{
+    desk.is_open()?;
+    desk.fits(Memo::U2(x1, x2, y, x2, x1, yn), m, Refusal::First)?;
+    Ok(desk.issue(Memo::Ei(y, yn)))
+}
+
+/// 06: x1, x2, y, y', m.
+#[inline(never)]
 pub fn swap(r: Registers, f: &[u8]) -> Outcome
     ensures { result ≡ outcome_for r 6 (request_at 6 f.now) }
 {
-    let x1 = digest(f, FIELDS, 0);
-    let x2 = digest(f, FIELDS, 1);
-    let y = digest(f, FIELDS, 2);
-    let yn = digest(f, FIELDS, 3);
-    let m = digest(f, FIELDS, 4);
-    let secret = r.secret;
-    let due = u2(x1, x2, y, x2, x1, yn);
-    let j = compare(begin_open(r), 8, due, secret, m);
-    let answer = ei(y, yn);
-    issue(r, j, 0x86, answer)
+    let mut desk = Desk::new(r);
+    let answer = swap_row(
+        &mut desk,
+        digest(f, FIELDS, 0),
+        digest(f, FIELDS, 1),
+        digest(f, FIELDS, 2),
+        digest(f, FIELDS, 3),
+        digest(f, FIELDS, 4),
+    );
+    desk.outcome(Kind::Swap, answer)
 }
 
-// 07: A; answers EI(0,leaf(A,A,0)).
+/// A leaf, worked.
+fn leaf(desk: &mut Desk, a: Item, b: Item, hash: [u8; 32]) -> [u8; 32]
+    ensures is { result ≡ S.digest_of sha256 (S.leaf a.0 b.0 hash) }
+    ensures counted { desk.new ≡ blocks_more desk.old (S.cost (S.leaf a.0 b.0 hash ∷ [])) }
+{
+    let leaf = digests::leaf(a, b, hash);
+    desk.work(leaf.blocks);
+    leaf.bytes
+}
+
+/// The row of 07: answers EI(0,leaf(A,A,0)).
+fn first_row(desk: &mut Desk, a: Item) -> Result<[u8; 32], Refusal>
+    requires { desk.old.blocks ≡ 0 }
+    ensures { outcome_at 7 result desk.new ≡ row desk.old.registers 7 (Q.first a.0) }
+{
+    desk.is_open()?;
+    desk.check(a.0 != 0, Refusal::Zero)?;
+    let only = leaf(desk, a, a, NONE);
+    Ok(desk.issue(Memo::Ei(NONE, only)))
+}
+
+/// 07: A.
+#[inline(never)]
 pub fn first(r: Registers, f: &[u8]) -> Outcome
     ensures { result ≡ outcome_for r 7 (request_at 7 f.now) }
 {
-    let a = item(f, 0);
-    let j = refuse_if(begin_open(r), 4, a.0 == 0);
-    if j.stopped {
-        return replies::refuse(r, j.number, j.blocks);
-    }
-    let none = [0u8; 32];
-    let l = digests::leaf(a, a, none);
-    let only = l.bytes;
-    issue(r, work(j, l.blocks), 0x87, ei(none, only))
+    let mut desk = Desk::new(r);
+    let answer = first_row(&mut desk, item(f, 0));
+    desk.outcome(Kind::First, answer)
 }
 
-// Check 8 of 08: the three leaves are worked for it alone. m may say U2(x1,x2,y,x1',x2',y') or, tried second,
-// U2(x2,x1,y,x2',x1',y'), where x1 is leaf(A,A',w), x1' leaf(A,B',w), x2 leaf(A',B',0) and x2' 0.
-fn place_memo(
-    r: Registers,
-    j: Judged,
+/// The row of 08: A' lies in the gap of A and B'. With x1 the leaf(A,A',w), x1' leaf(A,B',w), x2 leaf(A',B',0) and x2' 0, m may say
+/// U2(x1,x2,y,x1',x2',y') or, tried second, U2(x2,x1,y,x2',x1',y'); answers EI(y,y').
+#[tactic(auto, using(paper::proofs::Ceilings::cost_append))]
+fn place_row(
+    desk: &mut Desk,
     a: Item,
     an: Item,
     bn: Item,
@@ -57,75 +99,104 @@ fn place_memo(
     y: [u8; 32],
     yn: [u8; 32],
     m: [u8; 32],
-) -> Judged
-    ensures { CheckMade j (first_memo sha256 r (place_forms a.0 an.0 bn.0 w)
-        (place_says sha256 a.0 an.0 bn.0 w y yn) m) result }
+) -> Result<[u8; 32], Refusal>
+    requires { desk.old.blocks ≡ 0 }
+    ensures { outcome_at 8 result desk.new ≡ row desk.old.registers 8 (Q.place a.0 an.0 bn.0 w y yn m) }
 {
-    if j.stopped {
-        return j;
-    }
-    let none = [0u8; 32];
-    let l1 = digests::leaf(a, an, w);
-    let l2 = digests::leaf(an, bn, none);
-    let l1n = digests::leaf(a, bn, w);
-    let x1 = l1.bytes;
-    let x2 = l2.bytes;
-    let x1n = l1n.bytes;
-    let secret = r.secret;
-    let worked = work(work(work(j, l1.blocks), l1n.blocks), l2.blocks);
-    compare_either(
-        worked,
-        u2(x1, x2, y, x1n, none, yn),
-        u2(x2, x1, y, none, x1n, yn),
-        secret,
+    desk.is_open()?;
+    desk.check(a.0 != 0, Refusal::Zero)?;
+    desk.check(an.0 != 0, Refusal::Zero)?;
+    desk.check(bn.0 != 0, Refusal::Zero)?;
+    desk.check(records::in_gap(an, a, bn), Refusal::Gap)?;
+    let x1 = leaf(desk, a, an, w);
+    let x1n = leaf(desk, a, bn, w);
+    let x2 = leaf(desk, an, bn, NONE);
+    desk.fits_either(
+        Memo::U2(x1, x2, y, x1n, NONE, yn),
+        Memo::U2(x2, x1, y, NONE, x1n, yn),
         m,
-    )
+        Refusal::First,
+    )?;
+    Ok(desk.issue(Memo::Ei(y, yn)))
 }
 
 const PLACE_DIGESTS: u16 = FIELDS + 3 * NUMBER;
 
-// 08: A, A', B', w, y, y', m; A' lies in the gap of A and B'; answers EI(y,y').
+/// 08: A, A', B', w, y, y', m.
+#[inline(never)]
 pub fn place(r: Registers, f: &[u8]) -> Outcome
     ensures { result ≡ outcome_for r 8 (request_at 8 f.now) }
 {
-    let a = item(f, 0);
-    let an = item(f, 1);
-    let bn = item(f, 2);
-    let w = digest(f, PLACE_DIGESTS, 0);
-    let y = digest(f, PLACE_DIGESTS, 1);
-    let yn = digest(f, PLACE_DIGESTS, 2);
-    let m = digest(f, PLACE_DIGESTS, 3);
-    let j4 = refuse_if(begin_open(r), 4, a.0 == 0);
-    let j5 = refuse_if(j4, 4, an.0 == 0);
-    let j6 = refuse_if(j5, 4, bn.0 == 0);
-    let j7 = refuse_unless(j6, 6, records::in_gap(an, a, bn));
-    let j = place_memo(r, j7, a, an, bn, w, y, yn, m);
-    issue(r, j, 0x88, ei(y, yn))
+    let mut desk = Desk::new(r);
+    let answer = place_row(
+        &mut desk,
+        item(f, 0),
+        item(f, 1),
+        item(f, 2),
+        digest(f, PLACE_DIGESTS, 0),
+        digest(f, PLACE_DIGESTS, 1),
+        digest(f, PLACE_DIGESTS, 2),
+        digest(f, PLACE_DIGESTS, 3),
+    );
+    desk.outcome(Kind::Place, answer)
 }
 
-// 09: x, y, m; m is EI(x,y); answers EI(y,x).
+/// The row of 09: m is EI(x,y); answers EI(y,x).
+fn turn_row(desk: &mut Desk, x: [u8; 32], y: [u8; 32], m: [u8; 32]) -> Result<[u8; 32], Refusal>
+    requires { desk.old.blocks ≡ 0 }
+    ensures { outcome_at 9 result desk.new ≡ row desk.old.registers 9 (Q.turn x y m) }
+{
+    desk.is_open()?;
+    desk.fits(Memo::Ei(x, y), m, Refusal::First)?;
+    Ok(desk.issue(Memo::Ei(y, x)))
+}
+
+/// 09: x, y, m.
+#[inline(never)]
 pub fn turn(r: Registers, f: &[u8]) -> Outcome
     ensures { result ≡ outcome_for r 9 (request_at 9 f.now) }
 {
-    let x = digest(f, FIELDS, 0);
-    let y = digest(f, FIELDS, 1);
-    let m = digest(f, FIELDS, 2);
-    let secret = r.secret;
-    let j = compare(begin_open(r), 8, ei(x, y), secret, m);
-    issue(r, j, 0x89, ei(y, x))
+    let mut desk = Desk::new(r);
+    let answer = turn_row(
+        &mut desk,
+        digest(f, FIELDS, 0),
+        digest(f, FIELDS, 1),
+        digest(f, FIELDS, 2),
+    );
+    desk.outcome(Kind::Turn, answer)
 }
 
-// 0a: x, y, m1, z, m2; m1 is EI(x,y) and m2 is EI(y,z); answers EI(x,z).
+/// The row of 0a: m1 is EI(x,y) and m2 is EI(y,z); answers EI(x,z).
+fn chain_row(
+    desk: &mut Desk,
+    x: [u8; 32],
+    y: [u8; 32],
+    m1: [u8; 32],
+    z: [u8; 32],
+    m2: [u8; 32],
+) -> Result<[u8; 32], Refusal>
+    requires { desk.old.blocks ≡ 0 }
+    ensures { outcome_at 10 result desk.new ≡ row desk.old.registers 10 (Q.chain x y m1 z m2) }
+{
+    desk.is_open()?;
+    desk.fits(Memo::Ei(x, y), m1, Refusal::First)?;
+    desk.fits(Memo::Ei(y, z), m2, Refusal::Second)?;
+    Ok(desk.issue(Memo::Ei(x, z)))
+}
+
+/// 0a: x, y, m1, z, m2.
+#[inline(never)]
 pub fn chain(r: Registers, f: &[u8]) -> Outcome
     ensures { result ≡ outcome_for r 10 (request_at 10 f.now) }
 {
-    let x = digest(f, FIELDS, 0);
-    let y = digest(f, FIELDS, 1);
-    let m1 = digest(f, FIELDS, 2);
-    let z = digest(f, FIELDS, 3);
-    let m2 = digest(f, FIELDS, 4);
-    let secret = r.secret;
-    let i = compare(begin_open(r), 8, ei(x, y), secret, m1);
-    let j = compare(i, 9, ei(y, z), secret, m2);
-    issue(r, j, 0x8a, ei(x, z))
+    let mut desk = Desk::new(r);
+    let answer = chain_row(
+        &mut desk,
+        digest(f, FIELDS, 0),
+        digest(f, FIELDS, 1),
+        digest(f, FIELDS, 2),
+        digest(f, FIELDS, 3),
+        digest(f, FIELDS, 4),
+    );
+    desk.outcome(Kind::Chain, answer)
 }

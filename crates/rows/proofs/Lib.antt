@@ -1,3 +1,4 @@
 pub mod InMemory
 pub mod Puts
 pub mod ByHand
+pub mod Finding

@@ -1,52 +1,18 @@
 -- A leaf put into memory is there, and every other is as it was.
 use mathlib.Core.Path.{◌≡◌, refl, sym, ap, ◌∙◌}
-use mathlib.Core.List.{List, [], ◌∷◌, ◌++◌}
+use mathlib.Core.List.{List, ◌∷◌, ◌++◌, append_assoc}
 use mathlib.Core.Logic.{◌⊎◌, inl, inr, ◌≢◌}
-use Prim.Native.Nat.{ℕ, zero, suc, ◌+◌, ◌-◌, ◌*◌, ◌/◌, ◌<◌, ◌≤◌}
+use Prim.Native.Nat.{ℕ, zero, suc, ◌+◌, ◌*◌, ◌/◌, ◌<◌, ◌≤◌}
 use native.Mathlib.Nat.{not-suc-le-zero}
 use native.Mathlib.Omega.{arith}
 use native.Mathlib.Decide.{dec_lt}
 use borrow.Author.Tests.{le-leb, lt-leb}
-use lib.ListN.{length, get_or, set, take, drop, length-append, length-take, get_or-append}
-use lib.Seq.{sets-eq, get_or-take, get_or-drop, get_or-append-add}
-use Rattle.seqs.specs.Over.{put_at}
+use borrow.Rule.Slice.PartMut.{put_mid}
+use lib.ListN.{length, get_or, set, take, drop}
+use lib.Seq.{drop-drop}
+use Rattle.seqs.specs.Over.{put_at, put_there, put_elsewhere}
 use Rattle.rows.specs.declared.Row.{Row}
 use Rattle.rows.specs.Rows.{row_numbers, row_at, rows_from, numbers_in, row_put}
-
--- ── numbers put at a place ──
-
-module _ (m : List ℕ) (at : ℕ) (d : List ℕ) (room : at + length d ≤ length m) where
-  fits : put_at m at d ≡ (take at m ++ d) ++ drop (at + length d) m
-  unfolding put_at
-  fits = rw (le-leb (at + length d) (length m) room) refl
-
-  before_it : length (take at m) ≡ at
-  before_it = simp length-take (omega arith)
-
-  up_to_it : length (take at m ++ d) ≡ at + length d
-  up_to_it = simp length-append (omega (arith, before_it))
-
-  -- the number j of d stands j behind the place
-  get_there : (j : ℕ) → j < length d → get_or (put_at m at d) (at + j) 0 ≡ get_or d j 0
-  get_there j h =
-      rw (fits, get_or-append (take at m ++ d) (drop (at + length d) m) 0 (at + j) (omega (arith, up_to_it)))
-      (ap (λ (n : ℕ). get_or (take at m ++ d) (n + j) 0) (sym before_it) ∙ get_or-append-add (take at m) d j 0)
-
-  -- and outside the place all is as it was
-  get_kept : (j : ℕ) → (j < at) ⊎ (at + length d ≤ j) → get_or (put_at m at d) j 0 ≡ get_or m j 0
-  get_kept j (inl h) =
-      rw (
-        fits,
-        get_or-append (take at m ++ d) (drop (at + length d) m) 0 j (omega (arith, up_to_it)),
-        get_or-append (take at m) d 0 j (omega (arith, before_it)),
-      ) (get_or-take at m j 0 h)
-  get_kept j (inr h) =
-      let behind = j - (at + length d) in
-      let same : j ≡ at + length d + behind = omega arith in
-      rw fits
-      (ap (λ (n : ℕ). get_or ((take at m ++ d) ++ drop (at + length d) m) n 0) (same ∙ ap (λ (n : ℕ). n + behind) (sym up_to_it))
-      ∙ get_or-append-add (take at m ++ d) (drop (at + length d) m) behind 0 ∙ get_or-drop (at + length d) m behind 0
-      ∙ ap (λ (n : ℕ). get_or m n 0) (sym same))
 
 -- ── leaves ──
 
@@ -84,13 +50,13 @@ module _ (m : List ℕ) (i : ℕ) (r : Row) (room : row_numbers * i + row_number
       alike (row_put m i r) (numbers_in r) i 0
       (λ j h.
       let same : j ≡ row_numbers * 0 + j = omega arith in
-      get_there m (row_numbers * i) (numbers_in r) room j h ∙ ap (λ (n : ℕ). get_or (numbers_in r) n 0) same)
+      put_there m (row_numbers * i) (numbers_in r) j 0 room h ∙ ap (λ (n : ℕ). get_or (numbers_in r) n 0) same)
       ∙ of_numbers r
 
   pub row_else : (j : ℕ) → j ≢ i → row_at (row_put m i r) j ≡ row_at m j
   unfolding row_put
   row_else j n =
-      alike (row_put m i r) m j j (λ a h. get_kept m (row_numbers * i) (numbers_in r) room (row_numbers * j + a) (away a h))
+      alike (row_put m i r) m j j (λ a h. put_elsewhere m (row_numbers * i) (numbers_in r) row_numbers (row_numbers * j + a) 0 refl (away a h))
     where
       away : (a : ℕ) → a < row_numbers
           → (row_numbers * j + a < row_numbers * i) ⊎ (row_numbers * i + row_numbers ≤ row_numbers * j + a)
@@ -118,16 +84,11 @@ pub row_past : (m : List ℕ) (i : ℕ) (r : Row) → length m / row_numbers ≤
 unfolding row_put put_at
 row_past m i r h = rw (lt-leb (row_numbers * i + row_numbers) (length m) (omega arith)) refl
 
--- six stores, one behind the other
-pub six_stores : (m : List ℕ) (at : ℕ) (a b c d e f : ℕ) → at + 6 ≤ length m
-    → set (set (set (set (set (set m at a) (at + 1) b) (at + 2) c) (at + 3) d) (at + 4) e) (at + 5) f
-    ≡ put_at m at (a ∷ b ∷ c ∷ d ∷ e ∷ f ∷ [])
-six_stores m at a b c d e f h =
-    let vs : List ℕ = a ∷ b ∷ c ∷ d ∷ e ∷ f ∷ [] in
-    let e1 : at + 1 ≡ suc at = omega arith in
-    let e2 : at + 2 ≡ suc (suc at) = omega arith in
-    let e3 : at + 3 ≡ suc (suc (suc at)) = omega arith in
-    let e4 : at + 4 ≡ suc (suc (suc (suc at))) = omega arith in
-    let e5 : at + 5 ≡ suc (suc (suc (suc (suc at)))) = omega arith in
-    (λ i. set (set (set (set (set (set m at a) (e1 i) b) (e2 i) c) (e3 i) d) (e4 i) e) (e5 i) f)
-    ∙ sets-eq vs m at h ∙ sym (fits m at vs h)
+-- where it fits, its numbers stand in place of those that were there
+pub row_mid : (m d : List ℕ) (i k : ℕ) (r : Row) → d ≡ numbers_in r → k ≡ row_numbers → i < length m / row_numbers
+    → put_mid (row_numbers * i) k m d ≡ row_put m i r
+unfolding row_put put_at
+row_mid m d i k r e f h =
+    rw (e, f, le-leb (row_numbers * i + row_numbers) (length m) (omega arith))
+    (ap (λ (l : List ℕ). take (row_numbers * i) m ++ (numbers_in r ++ l)) (drop-drop row_numbers (row_numbers * i) m)
+    ∙ sym (append_assoc (take (row_numbers * i) m) (numbers_in r) (drop (row_numbers * i + row_numbers) m)))

@@ -1,10 +1,11 @@
 -- A tablet's leaves as numbers in memory, each as its item, the next item and the item's record; and the first leaf of some that
 -- passes a test.
-use Rattle.std.specs.Prelude.{Bool, List, [], ◌∷◌, ℕ, zero, suc, ◌+◌, ◌*◌, eqb, get_or}
-use Rattle.seqs.specs.Choose.{either}
+use Rattle.std.specs.Prelude.{Bool, List, [], ◌∷◌, ℕ, zero, suc, ◌+◌, ◌*◌, eqb, ltb, get_or, Option, Some, None}
+use Rattle.seqs.specs.Choose.{pick, either}
 use Rattle.seqs.specs.First.{first_from}
 use Rattle.seqs.specs.Over.{put_at}
-use Rattle.paper.specs.Strings.{numbers, in_gap}
+use Rattle.paper.specs.Strings.{Dig, digest_of, numbers, in_gap}
+use Rattle.paper.specs.Refusals.{leaf_of}
 use Rattle.rows.specs.declared.Row.{Row}
 use Rattle.rows.specs.declared.Search.{Search}
 use Rattle.rows.specs.declared.Search.TheVariants.{Own, Leading, Gap, Telling}
@@ -42,11 +43,19 @@ numbers_in r = r.item.0 ∷ r.next.0 ∷ numbers r.entry
 unfoldable pub row_put : List ℕ → (i : ℕ) → Row → List ℕ
 row_put m i r = put_at m (row_numbers * i) (numbers_in r)
 
+-- a leaf's digest, for any digest D
+abbrev pub row_digest : (D : List ℕ → Dig) → Row → Dig
+row_digest D r = digest_of D (leaf_of D r.item.0 r.next.0 r.entry)
+
 -- ── searches ──
 
 -- the place of the first that passes, of n from i on; else the place behind them
 abbrev pub seek : (Row → Bool) → List ℕ → (n i : ℕ) → ℕ
 seek p m = first_from (λ i. p (row_at m i))
+
+-- that place as a search of the first n answers it: none where none of them passes
+abbrev pub found : (Row → Bool) → List ℕ → (n : ℕ) → Option ℕ
+found p m n = pick (ltb (seek p m n 0) n) (Some (seek p m n 0)) None
 
 -- the leaf of item A; the leaf that leads to A; the leaf whose gap holds q; the leaf that answers a question on q
 abbrev pub of_item : (A : ℕ) → Row → Bool

@@ -29,7 +29,7 @@ use Rattle.edits.specs.Changes.{still_place, risen_at}
 use Rattle.edits.proofs.Places.{still_is}
 use Rattle.plans.specs.declared.Plan.{Plan}
 use Rattle.plans.specs.declared.Script.TheVariants.{Asking}
-use Rattle.plans.specs.Plans.{row_digest, no_values, no_row, plain_plan, asked}
+use Rattle.plans.specs.Plans.{no_values, no_row, plain_plan, asked}
 use Rattle.asking.specs.declared.Talk.{Talk}
 use Rattle.asking.specs.Saying.{start_of, slot_node, path_from, request_at}
 use Rattle.rising.specs.Rising.{as_edit}
@@ -73,7 +73,6 @@ module _ (D : List ℕ → Dig) (leaves m : List ℕ) (k : ℕ) (kept : Kept D (
 
   -- what memory has at the slot and at the root
   leaf_node : node_at m (1024 + i) ≡ d
-  unfolding row_digest
   leaf_node = kept.slots i (omega arith) ∙ slot_digest D leaves m k i there
 
   pub root_node : node_at m 1 ≡ Y.was

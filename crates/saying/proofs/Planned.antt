@@ -19,11 +19,11 @@ use Rattle.slots.specs.Nodes.{node_at}
 use Rattle.groves.specs.Grove.{slots_of, fork_at, Kept}
 use Rattle.groves.specs.SlotLines.{leaf_at, slot_fork, insert_at, swap_at, drop_at}
 use Rattle.groves.proofs.SlotLines.{slot_here, slot_past}
-use Rattle.rows.specs.Rows.{row_at, rows_from, seek, gap_of, leading_to}
+use Rattle.rows.specs.Rows.{row_at, rows_from, seek, gap_of, leading_to, row_digest}
 use Rattle.wishes.specs.Words.{own_place}
 use Rattle.ringed.specs.Ringed.{leaf_by, leaves_by}
 use Rattle.plans.specs.declared.Script.TheVariants.{Inserting, Swapping, Dropping}
-use Rattle.plans.specs.Plans.{row_digest, place_plan, plain_plan, inserting, swapping, dropping}
+use Rattle.plans.specs.Plans.{place_plan, plain_plan, inserting, swapping, dropping}
 use Rattle.asking.specs.Saying.{start_of}
 use Rattle.rising.proofs.Rising.{two_risen}
 use Rattle.saying.specs.Spoken.{spoken}
@@ -60,7 +60,6 @@ module _ (D : List ℕ → Dig) (leaves m : List ℕ) (k : ℕ) where
 
   -- what stands in a slot: a row's digest, or nothing
   pub slot_digest : (i : ℕ) → i < k → hash_of D (slots_of leaves_in (1024 + i)) ≡ row_digest D (row_at leaves i)
-  unfolding row_digest
   slot_digest i h = ap (hash_of D) (slot_here leaves_in i (omega (arith, many)) ∙ ap tip (leaf_is i h))
 
   pub slot_nothing : (i : ℕ) → k ≤ i → hash_of D (slots_of leaves_in (1024 + i)) ≡ nought
@@ -78,7 +77,7 @@ module _ (D : List ℕ → Dig) (leaves m : List ℕ) (k : ℕ) where
 
     pub insert_lines_lem : seek (gap_of A.0) leaves k 0 < k → k < 1024
         → spoken D s m 8 (start_of (inserting D leaves m k c A)) ≡ insert_at D s A.0 (seek (gap_of A.0) leaves k 0) leaves_in
-    unfolding inserting place_plan row_digest
+    unfolding inserting place_plan
     insert_lines_lem there room =
         let i = seek (gap_of A.0) leaves k 0 in
         let here = row_at leaves i in
@@ -166,7 +165,7 @@ module _ (D : List ℕ → Dig) (leaves m : List ℕ) (k : ℕ) (kept : Kept D (
       → record_hash D (row_at leaves (k - 1)).entry ≡ nought
       → spoken D s m 7 (start_of (dropping D leaves m k c A))
       ≡ drop_at D s A.0 (seek (leading_to A.0) leaves k 0) leaves_before last_leaf
-  unfolding dropping place_plan row_digest
+  unfolding dropping place_plan
   drop_lines less room leads own blank =
       let i = seek (leading_to A.0) leaves k 0 in
       let j = k - 1 in

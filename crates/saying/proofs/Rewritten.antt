@@ -22,7 +22,7 @@ use Rattle.groves.specs.Grove.{slots_of, tree_of, way_up, Kept}
 use Rattle.groves.proofs.Groves.{slot_level}
 use Rattle.groves.proofs.ShortLines.{way_length, one_path}
 use Rattle.rows.specs.declared.Row.{Row}
-use Rattle.rows.specs.Rows.{row_at, rows_from, of_item}
+use Rattle.rows.specs.Rows.{row_at, rows_from, of_item, row_digest}
 use Rattle.wishes.specs.Words.{own_place}
 use Rattle.ringed.specs.Ringed.{leaves_by}
 use Rattle.edits.specs.declared.Change.{Change}
@@ -30,7 +30,7 @@ use Rattle.edits.specs.Changes.{one_place as changeOne}
 use Rattle.edits.proofs.Places.{one_is}
 use Rattle.plans.specs.declared.Plan.{Plan}
 use Rattle.plans.specs.declared.Script.TheVariants.{Setting, Clearing}
-use Rattle.plans.specs.Plans.{leaf_of_items, row_digest, plain_plan, rewritten, record_after, no_values}
+use Rattle.plans.specs.Plans.{leaf_of_items, plain_plan, rewritten, record_after, no_values}
 use Rattle.asking.specs.declared.Talk.{Talk}
 use Rattle.asking.specs.declared.Part.TheVariants.{PathWhole}
 use Rattle.asking.specs.Parts.{part_at}
@@ -81,7 +81,6 @@ module _ (D : List ℕ → Dig) (leaves m : List ℕ) (k : ℕ) (kept : Kept D (
     E = edit A.0 here.next.0 here.entry
 
     leaf_is : as_edit the_change.a ≡ edit A.0 here.next.0 here.entry
-    unfolding row_digest
     leaf_is =
         (one_risen D F m kept i x (omega arith)).leaf
         ∙ (λ e. record { was = slot_digest D leaves m k i there e; becomes = x })

@@ -1,6 +1,6 @@
 -- Choices by a test, for definitions that go by `ltb`, `leb` and `eqb` as papers go by "if"; what holds of every element of a list;
 -- and what is left where a `match` has an arm for each of some numbers in a row.
-use Rattle.std.specs.Prelude.{Bool, true, false, ◌≡◌, refl, List, [], ◌∷◌, ℕ, zero, suc, ◌+◌, ◌≤◌}
+use Rattle.std.specs.Prelude.{Bool, true, false, ◌&&◌, ◌≡◌, refl, List, [], ◌∷◌, ℕ, zero, suc, ◌+◌, ◌≤◌}
 use Rattle.std.proofs.Common.{arith}
 
 -- the first of two where the test is true, else the second
@@ -26,6 +26,11 @@ both false b = false
 pub both_true : (p q : Bool) → both p q ≡ true → (p ≡ true) × (q ≡ true)
 both_true true q h = (refl, h)
 both_true false q h = (h, cc)
+
+-- the library's word for it
+pub both_and : (p q : Bool) → (p && q) ≡ both p q
+both_and true q = refl
+both_and false q = refl
 
 pub both_right : (p : Bool) → both p true ≡ p
 both_right true = refl

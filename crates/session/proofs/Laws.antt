@@ -20,7 +20,7 @@ use Rattle.module.specs.declared.Answered.{Answered}
 use Rattle.module.specs.Laws.{Promised}
 use Rattle.module.proofs.Laws.{with_room}
 use Rattle.session.specs.Replies.{told_of}
-use Rattle.session.specs.Serving.{session_with, Stand, out_after, serving, ServedAs, RepliedAs, FinishedAs}
+use Rattle.session.specs.Serving.{session_with, Stand, out_after, serving, ServedAs, RepliedAs, answer_at_end, FinishedAs}
 
 -- ── a reply behind others ──
 
@@ -40,10 +40,10 @@ replied s l o w a e p =
 
 -- and it fits the output, whose length a call keeps
 pub reply_fits : (s : Registers) (l o : List ℕ) (w : ℕ) (a : Answered) (e : List ℕ)
-    → RepliedAs s l w o a e → w ≤ length o → length e ≡ length o → w + a.length ≤ length o
+    → RepliedAs s l w o a e → w ≤ length o → length e ≡ length o → w + a.reply.length ≤ length o
 reply_fits s l o w a e r h k =
     let reply = reply_line (answer_to sha256 s l (length o - w)) in
-    let n : a.length ≡ length reply = ap (λ (x : Answered). x.length) r.returned in
+    let n : a.reply.length ≡ length reply = ap (λ (x : Answered). x.reply.length) r.returned in
     let size : length e ≡ min w (length o) + (length reply + (length o - w - length reply)) =
     rw r.left (simp (length-append, length-take, length-drop)) in
     omega arith
@@ -78,11 +78,10 @@ module _ (t : Stand) (p d o : List ℕ) (s : Registers) (i n w : ℕ) (e : t ≡
 
   -- a line was cut out and answered
   pub turn_line : (next m : ℕ) (d' : List ℕ) (a : Answered) (o' : List ℕ) → sought_in p i d n ≡ at_place next d' m true
-      → RepliedAs s (take (m - 0) d') w o a o'
-      → t ≡ feed_bytes serving (drop next p) (standing_at a.registers next d' 0 o' (w + a.length))
+      → RepliedAs s (take m d') w o a o'
+      → t ≡ feed_bytes serving (drop next p) (standing_at a.registers next d' 0 o' (w + a.reply.length))
   turn_line next m d' a o' f r =
-      let z : m - 0 ≡ m = omega arith in
-      rw (r.returned, r.left, z, with_room s (take m d') (length o - w) room) (turned (at_place next d' m true) f)
+      rw (r.returned, r.left, with_room s (take m d') (length o - w) room) (turned (at_place next d' m true) f)
 
   -- the piece was used up
   pub turn_more : (m : ℕ) (d' : List ℕ) → sought_in p i d n ≡ at_place (length p) d' m false
@@ -102,10 +101,9 @@ held_part n d = held_by (dec_le n (length d))
         rw (e, take-length d, take_all n d (omega arith))
 
 -- nothing, and a line
-finished_nothing : (s : Registers) (l o : List ℕ) → length l ≡ 0
-    → FinishedAs s l o (record { registers = s; refused = 0; length = 0; blocks = 0 }) o
-finished_nothing s [] o h = record { returned = refl; left = refl }
-finished_nothing s (b ∷ l) o h = absurd (omega arith)
+finished_nothing : (s : Registers) (l o : List ℕ) (a : Answered) → length l ≡ 0 → a ≡ answer_at_end s [] (length o) → FinishedAs s l o a o
+finished_nothing s [] o a h e = record { returned = e; left = refl }
+finished_nothing s (b ∷ l) o a h e = absurd (omega arith)
 
 finished_line : (s : Registers) (l o : List ℕ) (a : Answered) (o' : List ℕ) → (length l ≡ 0 → ⊥)
     → Promised s l o a o' → FinishedAs s l o a o'
@@ -113,14 +111,12 @@ finished_line s [] o a o' h p = absurd (h refl)
 finished_line s (b ∷ l) o a o' h p = record { returned = p.returned; left = p.left }
 
 module _ (s : Registers) (n : ℕ) (d o : List ℕ) where
-  pub last_none : min n (length d) ≡ 0
-      → FinishedAs s (take n d) o (record { registers = s; refused = 0; length = 0; blocks = 0 }) o
-  last_none h = finished_nothing s (take n d) o (length-take n d ∙ h)
+  pub last_none : (a : Answered) → min n (length d) ≡ 0 → a ≡ answer_at_end s [] (length o) → FinishedAs s (take n d) o a o
+  last_none a h e = finished_nothing s (take n d) o a (length-take n d ∙ h) e
 
   pub last_some : (a : Answered) (o' : List ℕ) (m : ℕ) → m ≡ min n (length d) → (m ≡ 0 → ⊥)
-      → Promised s (take (m - 0) d) o a o' → FinishedAs s (take n d) o a o'
+      → Promised s (take m d) o a o' → FinishedAs s (take n d) o a o'
   last_some a o' m e h p =
-      let z : m - 0 ≡ min n (length d) = omega arith in
-      let part : take (m - 0) d ≡ take n d = ap (λ (k : ℕ). take k d) z ∙ held_part n d in
+      let part : take m d ≡ take n d = ap (λ (k : ℕ). take k d) e ∙ held_part n d in
       let q : Promised s (take n d) o a o' = rw part at p in
       finished_line s (take n d) o a o' (λ i. h (e ∙ sym (length-take n d) ∙ i)) q

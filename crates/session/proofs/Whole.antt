@@ -197,7 +197,7 @@ module _ (s : Registers) (p : List ℕ) (at : ℕ) (d : List ℕ) (n : ℕ) (o :
 
 -- ── a call of `finish` ──
 
-last_length : (s : Registers) (l : List ℕ) (room : ℕ) → (answer_at_end s l room).length ≡ length (reply_at_end s l room)
+last_length : (s : Registers) (l : List ℕ) (room : ℕ) → (answer_at_end s l room).reply.length ≡ length (reply_at_end s l room)
 last_length s [] room = refl
 last_length s (x ∷ l) room = refl
 
@@ -210,17 +210,17 @@ module _ (s : Registers) (l out : List ℕ) (a : Answered) (out' : List ℕ) (e 
   abbrev reply : List ℕ
   reply = reply_at_end s l (length out)
 
-  finish_length : a.length ≡ length reply
-  finish_length = ap (λ (x : Answered). x.length) e.returned ∙ last_length s l (length out)
+  finish_length : a.reply.length ≡ length reply
+  finish_length = ap (λ (x : Answered). x.reply.length) e.returned ∙ last_length s l (length out)
 
-  pub finish_within : a.length ≤ length out'
+  pub finish_within : a.reply.length ≤ length out'
   finish_within =
       let n : length out' ≡ length reply + (length out - length reply) = ap length e.left ∙ simp (length-append, length-drop) in
       omega (arith, finish_length)
 
-  pub finish_bytes : reply_room ≤ length out → take a.length out' ≡ replies_to s (last_line l)
+  pub finish_bytes : reply_room ≤ length out → take a.reply.length out' ≡ replies_to s (last_line l)
   finish_bytes r =
-      rw e.left (take_at reply (drop (length reply) out) a.length (sym finish_length)) ∙ last_answered s l (length out) r
+      rw e.left (take_at reply (drop (length reply) out) a.reply.length (sym finish_length)) ∙ last_answered s l (length out) r
 
 -- ── a piece ──
 

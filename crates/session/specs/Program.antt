@@ -1,7 +1,7 @@
 -- What a program writes that is given its input in pieces and calls `serve` and `finish`; and the law of it.
 -- The definitions follow the program's loop (`run` and `serve_piece` of `knotcinder`), each call being what the contract of
 -- `serve` or `finish` says: there is one thing that it can return, and one thing that it can leave in each space.
-use Rattle.std.specs.Prelude.{◌≡◌, ℕ, zero, suc, ◌*◌, ◌<◌, ◌≤◌, ltb, length, take, drop}
+use Rattle.std.specs.Prelude.{◌≡◌, Some, ℕ, zero, suc, ◌*◌, ◌<◌, ◌≤◌, ltb, length, take, drop}
 use mathlib.Core.List.{List, [], ◌∷◌, ◌++◌, flatten}
 use Rattle.seqs.specs.Choose.{pick}
 use Rattle.pieces.specs.Cutting.{line_held}
@@ -72,4 +72,4 @@ OneFinish = (s : Registers) (held out : List ℕ) (a a' : Answered) (o o' : List
 abbrev pub FinishWithoutRoom : Type 0
 FinishWithoutRoom = (s : Registers) (b : ℕ) (l out : List ℕ) (a : Answered) (o : List ℕ) → length out < reply_room
     → FinishedAs s (b ∷ l) out a o
-    → (a ≡ record { registers = s; refused = 15; length = 0; blocks = 0 }) × (o ≡ out)
+    → (a ≡ record { registers = s; reply = record { refused = Some 15; length = 0; blocks = 0 } }) × (o ≡ out)

@@ -1,5 +1,5 @@
 -- What `serve` and `finish` do, for every input.
-use Rattle.std.specs.Prelude.{◌≡◌, false, List, [], ◌∷◌, ◌++◌, ℕ, ◌+◌, ◌-◌, min, ltb, length, take, drop}
+use Rattle.std.specs.Prelude.{◌≡◌, false, None, List, [], ◌∷◌, ◌++◌, ℕ, ◌+◌, ◌-◌, min, ltb, length, take, drop}
 use Rattle.pieces.specs.Feeding.{Taker, feed_bytes}
 use Rattle.pieces.specs.Cutting.{Holding, line_held, nothing_held, one_more_held}
 use Rattle.sha256.specs.Hash.{sha256}
@@ -84,7 +84,7 @@ pub record RepliedAs (s : Registers) (l : List ℕ) (w : ℕ) (o : List ℕ) (a 
 -- is written, and the registers are as they were (`FinishWithoutRoom` of Program). Where nothing is held there is no line: the
 -- registers are as they were, and there is no refusal, no reply and no block.
 abbrev pub answer_at_end : Registers → (held : List ℕ) (room : ℕ) → Answered
-answer_at_end s [] room = record { registers = s; refused = 0; length = 0; blocks = 0 }
+answer_at_end s [] room = record { registers = s; reply = record { refused = None; length = 0; blocks = 0 } }
 answer_at_end s (b ∷ l) room = answered_of (answer_to sha256 s (b ∷ l) room)
 
 -- and the bytes of its reply

@@ -1,4 +1,3 @@
 pub mod Padding
 pub mod Scheduling
-pub mod InRow
 pub mod Digests

@@ -1,9 +1,10 @@
 -- The padded message: that it is the one of FIPS 180-4, section 5.1.1, in as many blocks as the paper
 -- counts, and its bytes by their places.
-use Rattle.std.proofs.Common.{◌≡◌, ℕ, zero, suc, ◌+◌, ◌-◌, ◌*◌, ◌/◌, ◌%◌, ◌^◌, ◌<◌, ◌≤◌, List, ◌++◌, length, get_or, drop, replicate, refl, ap, ◌∙◌, arith, length-append, get_or-append-add, drop_at}
+use Rattle.std.proofs.Common.{◌≡◌, ℕ, suc, ◌+◌, ◌-◌, ◌*◌, ◌/◌, ◌%◌, ◌^◌, ◌<◌, ◌≤◌, List, [], ◌∷◌, ◌++◌, length, get_or, drop, replicate, ap, ◌∙◌, arith, length-append, get_or-append-add, drop_at}
 use lib.ListN.{length-replicate, get_or-replicate, get_or-append}
 use lib.Seq.{get_or-append_seam, take-append_seam, drop-append-add}
 use lib.Pow.{field, mod-mod-pow}
+use Rattle.std.specs.Int.{to_be_bytes, w64}
 use Rattle.seqs.specs.Bytes.{byte_of, be64}
 use Rattle.sha256.specs.Padding.{zeros, pad, blocks, Padded}
 
@@ -31,17 +32,14 @@ low64 x k h =
     ap (λ (n : ℕ). x % 2 ^ n / 2 ^ k % 256) e ∙ ap (λ (y : ℕ). y % 256) (field x ((56 - k) + 8) k)
     ∙ mod-mod-pow (x / 2 ^ k) (56 - k) 8
 
-be64_at : (x t : ℕ) → t < 8 → get_or (be64 x) t 0 ≡ byte_of x ((7 - t) * 8)
+-- so the eight bytes of those are the number's
+pub spelled : (x : ℕ) → to_be_bytes w64 (x % 2 ^ 64) ≡ be64 x
 unfolding be64
-be64_at x zero h = refl
-be64_at x (suc zero) h = refl
-be64_at x (suc (suc zero)) h = refl
-be64_at x (suc (suc (suc zero))) h = refl
-be64_at x (suc (suc (suc (suc zero)))) h = refl
-be64_at x (suc (suc (suc (suc (suc zero))))) h = refl
-be64_at x (suc (suc (suc (suc (suc (suc zero)))))) h = refl
-be64_at x (suc (suc (suc (suc (suc (suc (suc zero))))))) h = refl
-be64_at x (suc (suc (suc (suc (suc (suc (suc (suc t)))))))) h = omega arith
+spelled x =
+    let last : x % 2 ^ 64 % 256 ≡ byte_of x 0 = omega arith in
+    λ i.
+    low64 x 56 (omega arith) i ∷ low64 x 48 (omega arith) i ∷ low64 x 40 (omega arith) i ∷ low64 x 32 (omega arith) i ∷
+    low64 x 24 (omega arith) i ∷ low64 x 16 (omega arith) i ∷ low64 x 8 (omega arith) i ∷ last i ∷ []
 
 module _ (m : List ℕ) where
   n : ℕ
@@ -77,14 +75,12 @@ module _ (m : List ℕ) where
       past i h ∙ get_or-append gap _ 0 j (omega (arith, gap_length)) ∙ get_or-replicate (zeros (length m)) j 0 0 inside
 
   pub in_length : (i : ℕ) → length m < i → i < blocks (length m) * 64 → blocks (length m) * 64 ≤ i + 8
-      → get_or (pad m) i 0 ≡ byte_of (8 * length m) ((blocks (length m) * 64 - 1 - i) * 8)
+      → get_or (pad m) i 0 ≡ get_or (be64 (8 * length m)) (i + 8 - blocks (length m) * 64) 0
   unfolding n
   in_length i h k l =
       let t : ℕ = i + 8 - blocks (length m) * 64 in
       let e : i - length m - 1 ≡ length gap + t = omega (arith, gap_length, filled (length m)) in
-      let back : 7 - t ≡ blocks (length m) * 64 - 1 - i = omega arith in
       past i h ∙ ap (λ (j : ℕ). get_or (gap ++ be64 (8 * length m)) j 0) e ∙ get_or-append-add gap _ t 0
-      ∙ be64_at (8 * length m) t (omega arith) ∙ ap (λ (j : ℕ). byte_of (8 * length m) (j * 8)) back
 
   last_eight : drop (blocks (length m) * 64 - 8) (pad m) ≡ be64 (8 * length m)
   unfolding pad gap n

@@ -11,6 +11,10 @@ use Rattle.sha256.specs.Work.{schedule_word, rolled, Rolling}
 pub renumbered : {p : List ℕ} {i t u : ℕ} {ws : List ℕ} → t ≡ u → Rolling p i t ws → Rolling p i u ws
 renumbered {p} {i} {t} {u} {ws} e r = subst (λ (n : ℕ). Rolling p i n ws) e r
 
+-- before word 0 there is nothing to hold
+pub none_due : (p : List ℕ) (i : ℕ) (ws : List ℕ) → length ws ≡ 16 → Rolling p i 0 ws
+none_due p i ws h = record { size = h; holds = λ k h l. omega arith }
+
 module _ (p : List ℕ) (i : ℕ) where
   schedule_length : (n : ℕ) → length (schedule p i n) ≡ n
   unfolding schedule

@@ -1,14 +1,7 @@
 -- What the private functions of this crate promise one another. A reader of `digest`'s promise
 -- needs none of this: `proofs/` shows that it comes to what FIPS 180-4 says.
-use Rattle.std.specs.Prelude.{◌≡◌, ℕ, zero, suc, ◌+◌, ◌-◌, ◌%◌, ◌<◌, ◌≤◌, List, length, slice_index}
-use Rattle.sha256.specs.declared.State.{State}
-use Rattle.sha256.specs.Constants.{K}
-use Rattle.sha256.specs.Hash.{schedule, after_turn}
-
--- n turns from turn t on, w giving the word of each turn
-unfoldable pub turns_from : ℕ → ℕ → (ℕ → ℕ) → State → State
-turns_from zero t w s = s
-turns_from (suc n) t w s = after_turn (turns_from n t w s) (slice_index K (t + n)) (w (t + n))
+use Rattle.std.specs.Prelude.{◌≡◌, ℕ, ◌+◌, ◌-◌, ◌%◌, ◌<◌, ◌≤◌, List, length, slice_index}
+use Rattle.sha256.specs.Hash.{schedule}
 
 -- word k of block i's schedule
 abbrev pub schedule_word : List ℕ → ℕ → ℕ → ℕ

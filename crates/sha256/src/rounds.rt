@@ -1,17 +1,15 @@
-// The 64 turns of FIPS 180-4, section 6.2.2, steps 2 and 3.
+//! The 64 turns of FIPS 180-4, section 6.2.2, steps 2 and 3.
 ghost use Rattle.std.specs.Prelude.{◌≡◌, ◌+◌, ◌<◌, ◌≤◌, length, slice_index};
 ghost use Rattle.sha256.specs.Constants.{K};
 ghost use Rattle.sha256.specs.Padding.{pad, blocks};
 ghost use Rattle.sha256.specs.Hash.{after_turn, schedule, rounds};
-ghost use Rattle.sha256.specs.Work.{turns_from, rolled};
 
 use crate::State;
 use crate::schedule::{load, roll_four};
 use crate::words::{big0, big1, choose, majority};
-use std::num::wrapping_add_u32;
 
-// The constant of turn t. A `match` and no array: whoever reads an array has it on the stack first, 256 bytes of it, and
-// this one stays where the code is.
+/// The constant of turn t. A `match` and no array: whoever reads an array has it on the stack first, 256 bytes of it, and
+/// this one stays where the code is.
 fn constant(t: usize) -> u32
     requires { t < 64 }
     ensures { result ≡ slice_index K t }
@@ -84,67 +82,46 @@ fn constant(t: usize) -> u32
     }
 }
 
-// One turn, with its constant and its word.
-fn turn(s: State, k: u32, w: u32) -> State
-    ensures { result ≡ after_turn s k w }
-{
-    let t1 = wrapping_add_u32(
-        wrapping_add_u32(
-            wrapping_add_u32(wrapping_add_u32(s.h, big1(s.e)), choose(s.e, s.f, s.g)),
-            k,
-        ),
-        w,
-    );
-    let t2 = wrapping_add_u32(big0(s.a), majority(s.a, s.b, s.c));
-    State {
-        a: wrapping_add_u32(t1, t2),
-        b: s.a,
-        c: s.b,
-        d: s.c,
-        e: wrapping_add_u32(s.d, t1),
-        f: s.e,
-        g: s.f,
-        h: s.g,
+impl State {
+    /// One turn, with its constant and its word.
+    #[tactic(auto, unfolding(crate::specs::Hash::after_turn, crate::specs::Hash::T1, crate::specs::Hash::T2))]
+    fn turn(self, k: u32, w: u32) -> State
+        ensures { result ≡ after_turn self k w }
+    {
+        let t1 = self
+            .h
+            .wrapping_add(big1(self.e))
+            .wrapping_add(choose(self.e, self.f, self.g))
+            .wrapping_add(k)
+            .wrapping_add(w);
+        let t2 = big0(self.a).wrapping_add(majority(self.a, self.b, self.c));
+        State {
+            a: t1.wrapping_add(t2),
+            b: self.a,
+            c: self.b,
+            d: self.c,
+            e: self.d.wrapping_add(t1),
+            f: self.e,
+            g: self.f,
+            h: self.g,
+        }
     }
-}
 
-// Turn t, on words that roll over.
-fn one(s: State, ws: &[u32; 16], t: usize) -> State
-    requires { t + 1 ≤ 64 }
-    ensures { result ≡ turns_from 1 t (rolled ws.now) s }
-{
-    turn(s, constant(t), ws[t % 16])
-}
-
-// Two turns, from turn t on.
-fn two(s: State, ws: &[u32; 16], t: usize) -> State
-    requires { t + 2 ≤ 64 }
-    ensures { result ≡ turns_from 2 t (rolled ws.now) s }
-{
-    one(one(s, ws, t), ws, t + 1)
-}
-
-// Four: the compiler then keeps the working variables in registers instead of moving them along.
-fn four(s: State, ws: &[u32; 16], t: usize) -> State
-    requires { t + 4 ≤ 64 }
-    ensures { result ≡ turns_from 4 t (rolled ws.now) s }
-{
-    two(two(s, ws, t), ws, t + 2)
-}
-
-// All 64, over the schedule of block i, of which sixteen words are there at a time.
-pub(crate) fn turns(s: State, message: &[u8], i: usize) -> State
-    requires { i + 1 ≤ blocks (length message.now) }
-    ensures { result ≡ rounds 64 (schedule (pad message.now) i 64) s }
-{
-    let mut ws = [0u32; 16];
-    load(message, i, &mut ws);
-    let mut v = s;
-    let mut t: usize = 0;
-    while t < 64 {
-        roll_four(&mut ws, t);
-        v = four(v, &ws, t);
-        t += 4;
+    /// All 64 turns, over the schedule of block i, of which sixteen words are there at a time. Four in a row: the compiler then keeps
+    /// the working variables in registers instead of moving them along.
+    pub(crate) fn turned(self, message: &[u8], i: usize) -> State
+        requires { i + 1 ≤ blocks (length message.now) }
+        ensures { result ≡ rounds 64 (schedule (pad message.now) i 64) self }
+    {
+        let mut ws = [0; 16];
+        load(message, i, &mut ws);
+        let mut v = self;
+        for j in 0..16 {
+            roll_four(&mut ws, 4 * j);
+            for t in 4 * j..4 * j + 4 {
+                v = v.turn(constant(t), ws[t % 16]);
+            }
+        }
+        v
     }
-    v
 }

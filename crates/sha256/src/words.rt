@@ -1,13 +1,7 @@
-// The functions on 32-bit words of FIPS 180-4, section 4.1.2.
-ghost use Rattle.std.specs.Prelude.{◌≡◌, ◌<◌};
-ghost use Rattle.sha256.specs.Words.{ROTR, Ch, Maj, big_sigma0, big_sigma1, small_sigma0, small_sigma1};
-
-fn rotate(x: u32, n: u32) -> u32
-    requires { (0 < n) × (n < 32) }
-    ensures { result ≡ ROTR n x }
-{
-    (x >> n) | (x << (32 - n))
-}
+//! The functions on 32-bit words of FIPS 180-4, section 4.1.2. The four sigmas stay four, though two and two differ in numbers only: the
+//! standard has them by name, each with its numbers, and so has specs/Words.antt.
+ghost use Rattle.std.specs.Prelude.{◌≡◌};
+ghost use Rattle.sha256.specs.Words.{Ch, Maj, big_sigma0, big_sigma1, small_sigma0, small_sigma1};
 
 pub(crate) fn choose(x: u32, y: u32, z: u32) -> u32
     ensures { result ≡ Ch x y z }
@@ -21,26 +15,30 @@ pub(crate) fn majority(x: u32, y: u32, z: u32) -> u32
     (x & y) ^ (x & z) ^ (y & z)
 }
 
+#[tactic(auto, unfolding(crate::specs::Words::big_sigma0))]
 pub(crate) fn big0(x: u32) -> u32
     ensures { result ≡ big_sigma0 x }
 {
-    rotate(x, 2) ^ rotate(x, 13) ^ rotate(x, 22)
+    x.rotate_right(2) ^ x.rotate_right(13) ^ x.rotate_right(22)
 }
 
+#[tactic(auto, unfolding(crate::specs::Words::big_sigma1))]
 pub(crate) fn big1(x: u32) -> u32
     ensures { result ≡ big_sigma1 x }
 {
-    rotate(x, 6) ^ rotate(x, 11) ^ rotate(x, 25)
+    x.rotate_right(6) ^ x.rotate_right(11) ^ x.rotate_right(25)
 }
 
+#[tactic(auto, unfolding(crate::specs::Words::small_sigma0))]
 pub(crate) fn small0(x: u32) -> u32
     ensures { result ≡ small_sigma0 x }
 {
-    rotate(x, 7) ^ rotate(x, 18) ^ (x >> 3)
+    x.rotate_right(7) ^ x.rotate_right(18) ^ (x >> 3)
 }
 
+#[tactic(auto, unfolding(crate::specs::Words::small_sigma1))]
 pub(crate) fn small1(x: u32) -> u32
     ensures { result ≡ small_sigma1 x }
 {
-    rotate(x, 17) ^ rotate(x, 19) ^ (x >> 10)
+    x.rotate_right(17) ^ x.rotate_right(19) ^ (x >> 10)
 }

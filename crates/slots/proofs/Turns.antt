@@ -1,15 +1,14 @@
 -- One turn of each loop over the levels, and what lies past the end of the memory.
 use mathlib.Core.Path.{◌≡◌, refl, ap, sym, ◌∙◌}
 use mathlib.Core.Bool.{Bool, true, false}
-use mathlib.Core.List.{List, ◌++◌, append-nil}
+use mathlib.Core.List.{List}
 use Prim.Native.Nat.{ℕ, zero, suc, ◌+◌, ◌-◌, ◌*◌, ◌/◌, ◌%◌, ◌<◌, ◌≤◌}
 use native.Mathlib.Omega.{arith}
 use lib.Dec.{eqb, ltb}
-use lib.ListN.{length, replicate, length-replicate, drop_of_length-le}
-use lib.Seq.{drop-length}
+use lib.ListN.{length, replicate, drop_of_length-le}
 use Rattle.seqs.specs.Choose.{pick}
 use Rattle.seqs.specs.Bytes.{digest_at}
-use Rattle.seqs.specs.Over.{over, over_all, put_at, put_not, put_length}
+use Rattle.seqs.specs.Over.{put_at, put_not, put_length}
 use Rattle.sha256.specs.Hash.{sha256}
 use Rattle.paper.specs.Strings.{Dig, H, parent_forms, up}
 use Rattle.digests.specs.declared.Digest.{Digest}
@@ -41,12 +40,6 @@ leaf_length D m i d = by_test (ltb i slot_count)
     by_test : (b : Bool) → length (pick b (rehashed D level_count (slot_count + i) (put_node m (slot_count + i) d)) m) ≡ length m
     by_test true = rehashed_length D level_count (slot_count + i) _ ∙ node_length m (slot_count + i) d
     by_test false = refl
-
--- zeros written over every byte
-pub all_zero_lem : (l : List ℕ) → over (length l) (replicate (length l) 0) l ≡ replicate (length l) 0
-all_zero_lem l =
-    let z : List ℕ = replicate (length l) 0 in
-    over_all (length l) z l (length-replicate (length l) 0) ∙ ap (λ (r : List ℕ). z ++ r) (drop-length l) ∙ append-nil z
 
 -- ── loops: n - i levels are left at turn i ──
 

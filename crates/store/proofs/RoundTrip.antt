@@ -2,6 +2,7 @@
 use mathlib.Core.Path.{◌≡◌, refl, sym, ap, ap₂, subst, ◌∙◌}
 use mathlib.Core.Bool.{true, true≢false}
 use mathlib.Core.List.{List, [], ◌∷◌, ◌++◌, append_assoc}
+use Rattle.std.specs.Prelude.{Option, Some, None}
 use Prim.Native.Nat.{ℕ, zero, suc, ◌+◌, ◌≤◌}
 use native.Mathlib.Omega.{arith}
 use borrow.Author.Tests.{eq-eqb}
@@ -12,8 +13,6 @@ use Rattle.seqs.specs.Bytes.{Bytes, be64, number_of, number_at, number_at_lem, n
 use Rattle.hexadecimal.specs.Hex.{bytes_of, digits_of, line_of}
 use Rattle.hexadecimal.proofs.Laws.{value_small, bytes_of_digits, digits_of_bytes, digits_all, digits_length, bytes_length}
 use Rattle.rows.specs.declared.Row.{Row}
-use Rattle.store.specs.declared.Line.{Line}
-use Rattle.store.specs.declared.Line.TheVariants.{Leaf, Unreadable}
 use Rattle.store.specs.Lines.{row_bytes, row_in, line_read, line_of_row}
 use Rattle.store.specs.Texts.{TextRead, line_then, text_read, text_of, front_line}
 use Rattle.store.specs.RoundTrip.{RowFits, Storable, RoundTrips}
@@ -80,7 +79,7 @@ line_bytes_lem [] = tt
 line_bytes_lem (a ∷ []) = tt
 line_bytes_lem (a ∷ b ∷ l) = (omega (arith, value_small a, value_small b), line_bytes_lem l)
 
-written_reads : (r : Row) → Storable r → line_read (digits_of (row_bytes r)) ≡ Leaf r
+written_reads : (r : Row) → Storable r → line_read (digits_of (row_bytes r)) ≡ Some r
 unfolding line_read
 written_reads r s =
     let b = row_bytes r in
@@ -88,7 +87,7 @@ written_reads r s =
     let back : row_in (bytes_of (digits_of b)) ≡ r = ap row_in (bytes_of_digits b (bytes_small r)) ∙ row_back r s in
     rw (eq-eqb (length (digits_of b)) 96 n, digits_all b (bytes_small r), back, s.stands)
 
-read_writes : (l : List ℕ) (r : Row) → line_read l ≡ Leaf r → digits_of (row_bytes r) ≡ l
+read_writes : (l : List ℕ) (r : Row) → line_read l ≡ Some r → digits_of (row_bytes r) ≡ l
 read_writes l r h =
     let k = read_as l r h in
     ap (λ (x : Row). digits_of (row_bytes x)) k.is
@@ -101,7 +100,7 @@ row_fits b h =
     number_below b 0 h and number_below b 8 h and number_below b 16 h and number_below b 24 h and number_below b 32 h
     and number_below b 40 h and tt
 
-read_storable : (l : List ℕ) (r : Row) → line_read l ≡ Leaf r → Storable r
+read_storable : (l : List ℕ) (r : Row) → line_read l ≡ Some r → Storable r
 read_storable l r h =
     let k = read_as l r h in
     subst Storable (sym k.is) (record { fits = row_fits (bytes_of l) (line_bytes_lem l); stands = k.stands })
@@ -130,16 +129,16 @@ text_written (suc n) [] h w = ap (λ (x : TextRead). text_of x.rows) none_read
 text_written zero (b ∷ t) h w = absurd (omega arith)
 text_written (suc n) (b ∷ t) h w = by_front (front_line (b ∷ t)) refl (λ u k v. text_written n u k v)
   where
-    by_front : (x : Line) → front_line (b ∷ t) ≡ x → ((u : List ℕ) → length u ≤ n → (text_read u).whole ≡ true → text_of (text_read u).rows ≡ u)
+    by_front : (x : Option Row) → front_line (b ∷ t) ≡ x → ((u : List ℕ) → length u ≤ n → (text_read u).whole ≡ true → text_of (text_read u).rows ≡ u)
         → text_of (text_read (b ∷ t)).rows ≡ b ∷ t
-    by_front (Leaf r) e k =
+    by_front (Some r) e k =
         let f = fronted (b ∷ t) r e in
         let l = text_leaf (b ∷ t) r e in
         let rest = k (drop 97 (b ∷ t)) (omega (arith, length-drop 97 (b ∷ t))) (sym (ap (λ (x : TextRead). x.whole) l) ∙ w) in
         ap (λ (x : TextRead). text_of x.rows) l ∙ ap (λ (x : List ℕ). line_of_row r ++ x) rest
         ∙ line_first (row_bytes r) (drop 97 (b ∷ t))
         ∙ ap (λ (x : List ℕ). x ++ (0x0a ∷ drop 97 (b ∷ t))) (read_writes (take 96 (b ∷ t)) r f.read) ∙ sym f.parts
-    by_front Unreadable e k =
+    by_front None e k =
         absurd (true≢false (sym w ∙ ap (λ (x : TextRead). x.whole) (text_stops (b ∷ t) (omega arith) e)))
 
 storable : (n : ℕ) (t : List ℕ) → length t ≤ n → Every Storable (text_read t).rows
@@ -148,12 +147,12 @@ storable (suc n) [] h = subst (λ (x : TextRead). Every Storable x.rows) (sym no
 storable zero (b ∷ t) h = absurd (omega arith)
 storable (suc n) (b ∷ t) h = by_front (front_line (b ∷ t)) refl (λ u k. storable n u k)
   where
-    by_front : (x : Line) → front_line (b ∷ t) ≡ x → ((u : List ℕ) → length u ≤ n → Every Storable (text_read u).rows)
+    by_front : (x : Option Row) → front_line (b ∷ t) ≡ x → ((u : List ℕ) → length u ≤ n → Every Storable (text_read u).rows)
         → Every Storable (text_read (b ∷ t)).rows
-    by_front (Leaf r) e k =
+    by_front (Some r) e k =
         subst (λ (x : TextRead). Every Storable x.rows) (sym (text_leaf (b ∷ t) r e))
         (read_storable (take 96 (b ∷ t)) r (fronted (b ∷ t) r e).read, k (drop 97 (b ∷ t)) (omega (arith, length-drop 97 (b ∷ t))))
-    by_front Unreadable e k = subst (λ (x : TextRead). Every Storable x.rows) (sym (text_stops (b ∷ t) (omega arith) e)) tt
+    by_front None e k = subst (λ (x : TextRead). Every Storable x.rows) (sym (text_stops (b ∷ t) (omega arith) e)) tt
 
 pub round_trips : RoundTrips
 round_trips =

@@ -2,13 +2,14 @@
 use mathlib.Core.Path.{◌≡◌, refl, sym, ap, ◌∙◌}
 use mathlib.Core.Bool.{Bool, true, false, true≢false}
 use mathlib.Core.List.{List, [], ◌∷◌, ◌++◌, append-nil, append_assoc}
-use Prim.Native.Nat.{ℕ, ◌+◌, ◌<◌, ◌≤◌}
+use Rattle.std.specs.Prelude.{Option, Some, None, Ok, Err, is_some}
+use Prim.Native.Nat.{ℕ, ◌+◌, ◌-◌, ◌<◌, ◌≤◌}
 use native.Mathlib.Nat.{not-suc-le-zero}
 use native.Mathlib.Omega.{arith}
-use borrow.Author.Tests.{eq-eqb, ne_eqb, eqb-true, le-leb, lt-leb, leb-true}
+use borrow.Author.Tests.{ne_eqb, eqb-true, le-leb, lt-leb, leb-true}
 use lib.Dec.{eqb, leb}
 use lib.ListN.{length, get_or, take, drop, length-append, length-drop, take-append-drop, drop_of_length-le}
-use lib.Seq.{take_at, get_or_at, drop-cons, drop-drop, get_or-drop}
+use lib.Seq.{take_at, take_all, get_or_at, drop-cons, drop-drop}
 use Rattle.seqs.specs.Choose.{pick, both, both_true, Every}
 use Rattle.hexadecimal.specs.Hex.{is_digit, all_digits, bytes_of}
 use Rattle.hexadecimal.proofs.Laws.{digit_range}
@@ -16,11 +17,8 @@ use Rattle.pieces.specs.Feeding.{ends_line, feed_bytes}
 use Rattle.pieces.specs.Whole.{Gathered, gathering, gathered_in, in_full}
 use Rattle.pieces.proofs.Laws.{feed_append}
 use Rattle.rows.specs.declared.Row.{Row}
-use Rattle.store.specs.declared.Line.{Line}
-use Rattle.store.specs.declared.Line.TheVariants.{Leaf, Unreadable}
-use Rattle.store.specs.declared.Lines.TheVariants.{Readable, Stopped}
 use Rattle.store.specs.Lines.{row_in, may_stand, line_read}
-use Rattle.store.specs.Texts.{TextRead, line_then, lines_read, text_read, lines_in, front_line, is_leaf}
+use Rattle.store.specs.Texts.{TextRead, line_then, lines_read, text_read, lines_in, front_line}
 
 -- ── lines gathered ──
 
@@ -88,8 +86,8 @@ digits_no_end (c ∷ l) h =
 
 -- ── a line that can be read ──
 
-unread : (r : Row) → Unreadable ≡ Leaf r → ⊥
-unread r e = true≢false (ap is_leaf (sym e))
+unread : (r : Row) → None ≡ Some r → ⊥
+unread r e = true≢false (ap is_some (sym e))
 
 pub record ReadAs (l : List ℕ) (r : Row) : Type 0 where
   pub long : length l ≡ 96
@@ -97,12 +95,12 @@ pub record ReadAs (l : List ℕ) (r : Row) : Type 0 where
   pub stands : may_stand (row_in (bytes_of l)) ≡ true
   pub is : r ≡ row_in (bytes_of l)
 
-pub read_as : (l : List ℕ) (r : Row) → line_read l ≡ Leaf r → ReadAs l r
+pub read_as : (l : List ℕ) (r : Row) → line_read l ≡ Some r → ReadAs l r
 unfolding line_read
 read_as l r h = by_test (both (eqb (length l) 96) (both (all_digits l) (may_stand (row_in (bytes_of l))))) refl h
   where
     by_test : (v : Bool) → both (eqb (length l) 96) (both (all_digits l) (may_stand (row_in (bytes_of l)))) ≡ v
-        → pick v (Leaf (row_in (bytes_of l))) Unreadable ≡ Leaf r → ReadAs l r
+        → pick v (Some (row_in (bytes_of l))) None ≡ Some r → ReadAs l r
     by_test true e h =
         let p = both_true (eqb (length l) 96) _ e in
         let q = both_true (all_digits l) _ p.1 in
@@ -113,14 +111,14 @@ read_as l r h = by_test (both (eqb (length l) 96) (both (all_digits l) (may_stan
 pub record Fronted (t : List ℕ) (r : Row) : Type 0 where
   pub room : 97 ≤ length t
   pub parts : t ≡ take 96 t ++ (0x0a ∷ drop 97 t)
-  pub read : line_read (take 96 t) ≡ Leaf r
+  pub read : line_read (take 96 t) ≡ Some r
 
-pub fronted : (t : List ℕ) (r : Row) → front_line t ≡ Leaf r → Fronted t r
+pub fronted : (t : List ℕ) (r : Row) → front_line t ≡ Some r → Fronted t r
 unfolding front_line
 fronted t r h = by_tests (leb 97 (length t)) (eqb (get_or t 96 0) 0x0a) refl refl h
   where
     by_tests : (u v : Bool) → leb 97 (length t) ≡ u → eqb (get_or t 96 0) 0x0a ≡ v
-        → pick u (pick v (line_read (take 96 t)) Unreadable) Unreadable ≡ Leaf r → Fronted t r
+        → pick u (pick v (line_read (take 96 t)) None) None ≡ Some r → Fronted t r
     by_tests true true e f h =
         let room : 97 ≤ length t = omega (arith, leb-true) in
         record {
@@ -136,12 +134,12 @@ fronted t r h = by_tests (leb 97 (length t)) (eqb (get_or t 96 0) 0x0a) refl ref
 
 -- ── a text, line by line ──
 
-pub text_leaf : (t : List ℕ) (r : Row) → front_line t ≡ Leaf r → text_read t ≡ line_then (Leaf r) (text_read (drop 97 t))
+pub text_leaf : (t : List ℕ) (r : Row) → front_line t ≡ Some r → text_read t ≡ line_then (Some r) (text_read (drop 97 t))
 text_leaf t r h =
     let f = fronted t r h in
     ap text_read f.parts
     ∙ first_line (take 96 t) (drop 97 t) (digits_no_end (take 96 t) (read_as (take 96 t) r f.read).digits)
-    ∙ ap (λ (x : Line). line_then x (text_read (drop 97 t))) f.read
+    ∙ ap (λ (x : Option Row). line_then x (text_read (drop 97 t))) f.read
 
 front_of : (l s : List ℕ) → length l ≡ 96 → front_line (l ++ (0x0a ∷ s)) ≡ line_read l
 unfolding front_line
@@ -153,15 +151,15 @@ front_of l s n =
       take_at l (0x0a ∷ s) 96 n,
     )
 
-pub text_stops : (t : List ℕ) → 0 < length t → front_line t ≡ Unreadable → text_read t ≡ record { rows = []; whole = false }
+pub text_stops : (t : List ℕ) → 0 < length t → front_line t ≡ None → text_read t ≡ record { rows = []; whole = false }
 text_stops [] some h = absurd (not-suc-le-zero some)
 text_stops (b ∷ t) some h = by_split (split (b ∷ t))
   where
-    by_line : (l s : List ℕ) → b ∷ t ≡ l ++ (0x0a ∷ s) → (x : Line) → line_read l ≡ x
+    by_line : (l s : List ℕ) → b ∷ t ≡ l ++ (0x0a ∷ s) → (x : Option Row) → line_read l ≡ x
         → line_then x (text_read s) ≡ record { rows = []; whole = false }
-    by_line l s e Unreadable k = refl
-    by_line l s e (Leaf r) k =
-        let f : front_line (b ∷ t) ≡ Leaf r = ap front_line e ∙ front_of l s (read_as l r k).long ∙ k in
+    by_line l s e None k = refl
+    by_line l s e (Some r) k =
+        let f : front_line (b ∷ t) ≡ Some r = ap front_line e ∙ front_of l s (read_as l r k).long ∙ k in
         absurd (unread r (sym h ∙ f))
 
     by_split : Split (b ∷ t) → text_read (b ∷ t) ≡ record { rows = []; whole = false }
@@ -171,27 +169,24 @@ text_stops (b ∷ t) some h = by_split (split (b ∷ t))
 -- ── the front of a text from a place on, as the code looks at it ──
 
 module _ (t : List ℕ) (at : ℕ) where
-  pub front_short : length t < at + 97 → is_leaf (front_line (drop at t)) ≡ false
+  pub front_short : length t < at + 97 → is_some (front_line (drop at t)) ≡ false
   unfolding front_line
   front_short h = rw (lt-leb 97 (length (drop at t)) (simp length-drop (omega arith)))
 
-  pub front_other : at + 97 ≤ length t → (get_or t (at + 96) 0 ≡ 0x0a → ⊥) → is_leaf (front_line (drop at t)) ≡ false
-  unfolding front_line
-  front_other h n =
-      rw (le-leb 97 (length (drop at t)) (simp length-drop (omega arith)), get_or-drop at t 96 0, ne_eqb (get_or t (at + 96) 0) 0x0a n)
+-- what stands from a place on is all of it
+pub rest_all : (t : List ℕ) (at : ℕ) → take (length t - at) (drop at t) ≡ drop at t
+rest_all t at = take_all (length t - at) (drop at t) (simp length-drop (omega arith))
 
-  pub front_here : at + 97 ≤ length t → get_or t (at + 96) 0 ≡ 0x0a → front_line (drop at t) ≡ line_read (take 96 (drop at t))
-  unfolding front_line
-  front_here h e =
-      rw (le-leb 97 (length (drop at t)) (simp length-drop (omega arith)), get_or-drop at t 96 0, eq-eqb (get_or t (at + 96) 0) 0x0a e)
+pub front_from : (t : List ℕ) (at : ℕ) → is_some (front_line (take (length t - at) (drop at t))) ≡ is_some (front_line (drop at t))
+front_from t at = ap (λ (l : List ℕ). is_some (front_line l)) (rest_all t at)
 
-is_leaf_lem : (l : Line) → is_leaf l ≡ true → (r : Row) × (l ≡ Leaf r)
-is_leaf_lem (Leaf r) h = (r, refl)
-is_leaf_lem Unreadable h = absurd (true≢false (sym h))
+is_some_lem : (l : Option Row) → is_some l ≡ true → (r : Row) × (l ≡ Some r)
+is_some_lem (Some r) h = (r, refl)
+is_some_lem None h = absurd (true≢false (sym h))
 
-is_none : (l : Line) → is_leaf l ≡ false → l ≡ Unreadable
-is_none (Leaf r) h = absurd (true≢false h)
-is_none Unreadable h = refl
+is_none : (l : Option Row) → is_some l ≡ false → l ≡ None
+is_none (Some r) h = absurd (true≢false h)
+is_none None h = refl
 
 -- n lines were read up to a place: what is behind it decides
 pub record Passed (t : List ℕ) (at n : ℕ) : Type 0 where
@@ -201,9 +196,9 @@ pub record Passed (t : List ℕ) (at n : ℕ) : Type 0 where
 pub passed_none : (t : List ℕ) → Passed t 0 0
 passed_none t = record { so_many = omega arith; so_far = refl }
 
-pub passed_on : (t : List ℕ) (at n : ℕ) → Passed t at n → is_leaf (front_line (drop at t)) ≡ true → Passed t (at + 97) (n + 1) × (at + 97 ≤ length t)
+pub passed_on : (t : List ℕ) (at n : ℕ) → Passed t at n → is_some (front_line (drop at t)) ≡ true → Passed t (at + 97) (n + 1) × (at + 97 ≤ length t)
 passed_on t at n p h =
-    let l = is_leaf_lem (front_line (drop at t)) h in
+    let l = is_some_lem (front_line (drop at t)) h in
     let e = text_leaf (drop at t) l.0 l.1 in
     let d : drop 97 (drop at t) ≡ drop (at + 97) t = drop-drop 97 at t in
     let room = (fronted (drop at t) l.0 l.1).room in
@@ -216,14 +211,14 @@ passed_on t at n p h =
       omega (arith, room, length-drop at t),
     )
 
-pub stopped_at : (t : List ℕ) (at n : ℕ) → at < length t → Passed t at n → is_leaf (front_line (drop at t)) ≡ false → lines_in t ≡ Stopped n
+pub stopped_at : (t : List ℕ) (at n : ℕ) → at < length t → Passed t at n → is_some (front_line (drop at t)) ≡ false → lines_in t ≡ Err n
 unfolding lines_in
 stopped_at t at n room p h =
     let e = text_stops (drop at t) (simp length-drop (omega arith)) (is_none (front_line (drop at t)) h) in
     let rows : length (text_read t).rows ≡ n = p.so_many ∙ rw e (omega arith) in
     rw (p.so_far ∙ ap (λ (x : TextRead). x.whole) e, rows)
 
-pub all_passed_lem : (t : List ℕ) (at n : ℕ) → length t ≤ at → Passed t at n → lines_in t ≡ Readable n
+pub all_passed_lem : (t : List ℕ) (at n : ℕ) → length t ≤ at → Passed t at n → lines_in t ≡ Ok n
 unfolding lines_in text_read
 all_passed_lem t at n room p =
     let e : text_read (drop at t) ≡ record { rows = []; whole = true } = ap text_read (drop_of_length-le t room) in

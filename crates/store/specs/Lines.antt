@@ -1,13 +1,11 @@
 -- A line of the tablet's store: a leaf's numbers A and A' and its record's, eight bytes each, as digits, and 0A.
-use Rattle.std.specs.Prelude.{Bool, List, ℕ, ◌+◌, ◌*◌, eqb, length}
+use Rattle.std.specs.Prelude.{Bool, List, ℕ, ◌+◌, ◌*◌, eqb, length, Option, Some, None}
 use Rattle.seqs.specs.Choose.{pick, both, opposite}
 use Rattle.seqs.specs.Bytes.{number_at}
 use Rattle.hexadecimal.specs.Hex.{all_digits, bytes_of, line_of}
 use Rattle.paper.specs.Strings.{nums, spread, malformed}
 use Rattle.rows.specs.declared.Row.{Row}
 use Rattle.rows.specs.Rows.{row_numbers, numbers_in}
-use Rattle.store.specs.declared.Line.{Line}
-use Rattle.store.specs.declared.Line.TheVariants.{Leaf, Unreadable}
 
 -- the digits of a line, two for each of the eight bytes of a number, and its bytes with the 0A
 abbrev pub line_digits : ℕ
@@ -37,10 +35,10 @@ row_in b =
 unfoldable pub may_stand : Row → Bool
 may_stand r = both (opposite (eqb r.item.0 0)) (both (opposite (eqb r.next.0 0)) (opposite (malformed r.entry)))
 
--- what a line says, given without its 0A: it has its length and digits alone, and its leaf may stand in a store
-unfoldable pub line_read : List ℕ → Line
+-- what a line says, given without its 0A, or nothing: it has its length and digits alone, and its leaf may stand in a store
+unfoldable pub line_read : List ℕ → Option Row
 line_read l =
-    pick (both (eqb (length l) line_digits) (both (all_digits l) (may_stand (row_in (bytes_of l))))) (Leaf (row_in (bytes_of l))) Unreadable
+    pick (both (eqb (length l) line_digits) (both (all_digits l) (may_stand (row_in (bytes_of l))))) (Some (row_in (bytes_of l))) None
 
 -- a leaf's line, with its 0A
 abbrev pub line_of_row : Row → List ℕ

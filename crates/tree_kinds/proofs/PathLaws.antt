@@ -1,12 +1,13 @@
 -- One level of a path's fold, its end, and what a parent and a level cost.
-use mathlib.Core.Path.{◌≡◌, refl, sym, ◌∙◌}
+use mathlib.Core.Path.{◌≡◌, refl, sym, ap, ◌∙◌}
 use mathlib.Core.Bool.{Bool, true, false}
 use mathlib.Core.List.{List, [], ◌∷◌}
-use Prim.Native.Nat.{ℕ, suc, ◌+◌, ◌*◌, ◌/◌, ◌%◌, ◌^◌, ◌<◌, ◌≤◌}
+use native.Mathlib.Decide.{dec_le}
+use Prim.Native.Nat.{min, ℕ, suc, ◌+◌, ◌/◌, ◌%◌, ◌<◌, ◌≤◌}
 use native.Mathlib.Numerals.{add-one}
 use native.Mathlib.Omega.{arith}
 use lib.Dec.{eqb}
-use lib.ListN.{length, get_or, take, drop, drop_of_length-le, length-take}
+use lib.ListN.{length, get_or, take, drop, drop_of_length-le}
 use lib.Seq.{drop-cons, take_all}
 use Rattle.seqs.specs.Choose.{pick}
 use Rattle.seqs.specs.Bytes.{all_zero}
@@ -54,9 +55,9 @@ pub forms_end : (u : Dig) (bits : ℕ) (l : List Dig) (i : ℕ) → length l ≤
 forms_end u bits l i h = rw (drop_of_length-le l h)
 
 -- more siblings than there are are all of them
-pub take_more : (l : List Dig) (n : ℕ) → length l ≡ 64 → 64 < n → take 64 l ≡ take n l
-take_more l n h k = take_all 64 l (omega arith) ∙ sym (take_all n l (omega arith))
-
--- the ceiling of a path of at most 64 levels
-pub few_levels : (l : List Dig) (n : ℕ) → n ≤ 64 → 4 * length (take n l) + 3 < 2 ^ 64
-few_levels l n h = simp length-take (omega arith)
+pub take_least : (l : List Dig) (n k : ℕ) → length l ≡ 64 → k ≡ min n 64 → take k l ≡ take n l
+take_least l n k h e =
+    elim (dec_le n 64) [
+      | yes m ↦ ap (λ (i : ℕ). take i l) (omega (arith, e, m))
+      | no m ↦ take_all k l (omega (arith, e, m)) ∙ sym (take_all n l (omega (arith, m)))
+    ]

@@ -1,9 +1,10 @@
 -- What people are told: the bytes of each line, which begins with `# ` and ends with 0A.
-use Rattle.std.specs.Prelude.{List, [], ◌∷◌, ◌++◌, ℕ, get_or}
+use Rattle.std.specs.Prelude.{List, [], ◌∷◌, ◌++◌, ℕ}
 use Rattle.paper.specs.declared.Finding.{Finding}
 use Rattle.paper.specs.declared.Finding.TheVariants.{Recorded, Listed, Gap}
 use Rattle.paper.specs.Strings.{numbers}
 use Rattle.decimals.specs.Spelling.{numeral_of}
+use Rattle.wishes.specs.Words.{word_name}
 use Rattle.words.specs.declared.Telling.{Telling}
 use Rattle.words.specs.declared.Telling.TheVariants.{Done, Found, NoItem, Refused, ModuleRefused, Otherwise, What}
 
@@ -59,23 +60,6 @@ otherwise_text =
 -- `# what?`
 abbrev pub what_text : List ℕ
 what_text = 35 ∷ 32 ∷ 119 ∷ 104 ∷ 97 ∷ 116 ∷ 63 ∷ []
-
--- zero, mass, listed, unlisted, recorded, empty, full and top, by their numbers; no other number has a word
-abbrev pub word_names : List (List ℕ)
-word_names =
-    []
-    ∷ (122 ∷ 101 ∷ 114 ∷ 111 ∷ [])
-    ∷ (109 ∷ 97 ∷ 115 ∷ 115 ∷ [])
-    ∷ (108 ∷ 105 ∷ 115 ∷ 116 ∷ 101 ∷ 100 ∷ [])
-    ∷ (117 ∷ 110 ∷ 108 ∷ 105 ∷ 115 ∷ 116 ∷ 101 ∷ 100 ∷ [])
-    ∷ (114 ∷ 101 ∷ 99 ∷ 111 ∷ 114 ∷ 100 ∷ 101 ∷ 100 ∷ [])
-    ∷ (101 ∷ 109 ∷ 112 ∷ 116 ∷ 121 ∷ [])
-    ∷ (102 ∷ 117 ∷ 108 ∷ 108 ∷ [])
-    ∷ (116 ∷ 111 ∷ 112 ∷ [])
-    ∷ []
-
-abbrev pub word_name : ℕ → List ℕ
-word_name n = get_or word_names n []
 
 -- ── what is told ──
 

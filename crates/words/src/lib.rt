@@ -1,311 +1,178 @@
-// Words: a wish as people write it, read; and what came of it, told in a line that begins with `# `.
+//! Words: a wish as people write it, read; and what came of it, told in a line that begins with `# `.
 #![tactic(auto)]
 
-ghost use Rattle.std.specs.Prelude.{◌≡◌, ◌+◌, ◌≤◌, ◌++◌, length, replicate};
-ghost use Rattle.seqs.specs.Over.{written};
-ghost use Rattle.paper.specs.declared.Finding.TheVariants.{Recorded, Listed, Gap};
-ghost use Rattle.seqs.specs.Bytes.{same};
+ghost use Rattle.std.specs.Prelude.{◌≡◌, ◌==◌, ◌+◌, ◌*◌, ◌≤◌, length, position};
 ghost use Rattle.decimals.specs.Decimals.{decimal_in};
-ghost use Rattle.words.specs.Reading.{word_in, by_name, by_one, setting_of, by_four};
-ghost use Rattle.words.specs.declared.Telling.TheVariants.{NoItem, ModuleRefused};
-ghost use Rattle.words.specs.Telling.{told, told_text, found_text, refused_text, word_name};
-ghost use Rattle.words.specs.Building.{WordEnds, TextIs, TextMore, NumberMore, Holds};
+ghost use Rattle.words.specs.Reading.{word_in, by_name, by_four, setting_of};
+ghost use Rattle.words.specs.Telling.{told, told_text, numbered};
+ghost use Rattle.wishes.specs.Words.{word_name};
+ghost use Rattle.words.specs.Building.{FirstWord};
 
-use decimals::Decimal;
-use paper::{Finding, Item, Kilograms, Millimetres, Record, Revision, Rigging, Values};
-use wishes::Wish;
+use buffers::Buffer;
+use paper::{Finding, Item, Kilograms, Millimetres, Revision, Rigging, Values};
+use wishes::{Refused, Wish};
 
-// What a line says where no reply is awaited: a wish; the counter that the module gave last; or nothing that is one of these.
+/// What a line says where no reply is awaited: a wish, or the counter that the module gave last.
 #[derive(Clone, Copy)]
 pub enum Word {
     Wish(Wish),
     Counter(Revision),
-    Unknown,
 }
 
-// What is told: a change is done; a question's finding, or that there is no item at all; the tablet refuses, by the number of its
-// word; the module refused, by the number of its table; the module spoke otherwise; or a line is no wish.
+/// What is told: a change is done; a question's finding, or that there is no item at all; the tablet refuses, by the number of its
+/// word; the module refused, by the number of its table; the module spoke otherwise; or a line is no wish.
 #[derive(Clone, Copy)]
 pub enum Telling {
     Done,
     Found(Finding),
     NoItem(Item),
+    // The numbers stay bytes: docs/TRACE.md names `tell`, and it answers for every byte.
     Refused(u8),
     ModuleRefused(u8),
     Otherwise,
     What,
 }
 
-// A text at the front of an array of zeros; the longest that is told has 114 bytes.
-#[derive(Clone, Copy)]
-pub struct Text {
-    pub bytes: [u8; 128],
-    pub n: usize,
-}
+/// A text that is told; the longest has 114 bytes.
+pub type Text = Buffer<128>;
 
 // ── a line read ──
 
-// Where the word that begins at a place ends: at the next space, or with the line.
-fn word_end(line: &[u8], from: usize) -> usize
-    requires { from ≤ length line.now }
-    ensures { WordEnds line.now from result }
+/// Where a line's first space is.
+fn first_space(line: &[u8]) -> Option<usize>
+    ensures { result ≡ position (λ c. c == 32) line.now }
 {
-    let mut i = from;
-    while i < line.len() {
-        if line[i] == 32 {
-            return i;
-        }
-        i += 1;
-    }
-    i
+    line.iter().position(|&c| c == b' ')
 }
 
-fn is(word: &[u8], name: &[u8]) -> bool
-    ensures { result ≡ same word.now name.now }
+/// A line's first word, and what stands behind the space after it, if there is one.
+#[tactic(auto, using(crate::proofs::Cuts::ends_at_space, crate::proofs::Cuts::ends_with_line))]
+fn first_word(line: &[u8]) -> (&[u8], Option<&[u8]>)
+    ensures { FirstWord line.now result.0.now result.1 }
 {
-    if word.len() != name.len() {
-        return false;
+    match first_space(line) {
+        Some(end) => (&line[..end], Some(&line[end + 1..])),
+        None => (line, None),
     }
-    let mut i: usize = 0;
-    while i < word.len() {
-        if word[i] != name[i] {
-            return false;
-        }
-        i += 1;
-    }
-    true
 }
 
-// A name and its number.
-fn by_name(name: &[u8], n: u64) -> Word
+/// A name and its number.
+#[tactic(auto, using(crate::proofs::Names::is_same))]
+fn by_name(name: &[u8], n: u64) -> Option<Word>
     ensures { result ≡ by_name name.now n }
 {
-    if is(name, b"insert") {
-        return Word::Wish(Wish::Insert(Item(n)));
-    }
-    if is(name, b"remove") {
-        return Word::Wish(Wish::Remove(Item(n)));
-    }
-    if is(name, b"clear") {
-        return Word::Wish(Wish::Clear(Item(n)));
-    }
-    if is(name, b"ask") {
-        return Word::Wish(Wish::Ask(Item(n)));
-    }
-    if is(name, b"counter") {
-        return Word::Counter(Revision(n));
-    }
-    Word::Unknown
-}
-
-fn by_one(name: &[u8], a: &[u8]) -> Word
-    ensures { result ≡ by_one name.now (decimal_in a.now) }
-{
-    match decimals::read(a) {
-        Decimal::Number(n) => by_name(name, n),
-        Decimal::NoNumber => Word::Unknown,
+    if name == b"insert".as_slice() {
+        Some(Word::Wish(Wish::Insert(Item(n))))
+    } else if name == b"remove".as_slice() {
+        Some(Word::Wish(Wish::Remove(Item(n))))
+    } else if name == b"clear".as_slice() {
+        Some(Word::Wish(Wish::Clear(Item(n))))
+    } else if name == b"ask".as_slice() {
+        Some(Word::Wish(Wish::Ask(Item(n))))
+    } else if name == b"counter".as_slice() {
+        Some(Word::Counter(Revision(n)))
+    } else {
+        None
     }
 }
 
-// An item and its values, where all four are numbers.
-fn set_of(a: &[u8], mass: &[u8], offset: &[u8], rigging: &[u8]) -> Word
+/// An item and its values, where all four are numbers.
+fn set_of(a: &[u8], mass: &[u8], offset: &[u8], rigging: &[u8]) -> Option<Word>
     ensures { result ≡ setting_of (decimal_in a.now) (decimal_in mass.now)
         (decimal_in offset.now) (decimal_in rigging.now) }
 {
-    match decimals::read(a) {
-        Decimal::NoNumber => Word::Unknown,
-        Decimal::Number(n) => match decimals::read(mass) {
-            Decimal::NoNumber => Word::Unknown,
-            Decimal::Number(m) => match decimals::read(offset) {
-                Decimal::NoNumber => Word::Unknown,
-                Decimal::Number(o) => match decimals::read(rigging) {
-                    Decimal::NoNumber => Word::Unknown,
-                    Decimal::Number(r) => Word::Wish(Wish::Set(
-                        Item(n),
-                        Values {
-                            mass: Kilograms(m),
-                            offset: Millimetres(o),
-                            rigging: Rigging(r),
-                        },
-                    )),
-                },
-            },
+    Some(Word::Wish(Wish::Set(
+        Item(decimals::read(a)?),
+        Values {
+            mass: Kilograms(decimals::read(mass)?),
+            offset: Millimetres(decimals::read(offset)?),
+            rigging: Rigging(decimals::read(rigging)?),
         },
-    }
+    )))
 }
 
-// The only name with four numbers.
-fn by_four(name: &[u8], a: &[u8], mass: &[u8], offset: &[u8], rigging: &[u8]) -> Word
+/// The only name with four numbers.
+#[tactic(auto, using(crate::proofs::Names::is_same))]
+fn by_four(name: &[u8], a: &[u8], mass: &[u8], offset: &[u8], rigging: &[u8]) -> Option<Word>
     ensures { result ≡ by_four name.now (decimal_in a.now) (decimal_in mass.now)
         (decimal_in offset.now) (decimal_in rigging.now) }
 {
-    if is(name, b"set") {
-        return set_of(a, mass, offset, rigging);
+    if name == b"set".as_slice() {
+        set_of(a, mass, offset, rigging)
+    } else {
+        None
     }
-    Word::Unknown
 }
 
-// What a line says, without its 0A.
-pub fn read(line: &[u8]) -> Word
+/// What a line says, without its 0A, if it says anything.
+pub fn read(line: &[u8]) -> Option<Word>
     ensures { result ≡ word_in line.now }
 {
-    let n = line.len();
-    let a = word_end(line, 0);
-    if a == n {
-        return Word::Unknown;
+    let (name, rest) = first_word(line);
+    let (item, rest) = first_word(rest?);
+    let Some(rest) = rest else {
+        return by_name(name, decimals::read(item)?);
+    };
+    let (mass, rest) = first_word(rest);
+    let (offset, rest) = first_word(rest?);
+    let (rigging, rest) = first_word(rest?);
+    match rest {
+        None => by_four(name, item, mass, offset, rigging),
+        Some(_) => None,
     }
-    let b = word_end(line, a + 1);
-    if b == n {
-        return by_one(&line[0..a], &line[a + 1..b]);
-    }
-    let c = word_end(line, b + 1);
-    if c == n {
-        return Word::Unknown;
-    }
-    let d = word_end(line, c + 1);
-    if d == n {
-        return Word::Unknown;
-    }
-    let e = word_end(line, d + 1);
-    if e == n {
-        return by_four(
-            &line[0..a],
-            &line[a + 1..b],
-            &line[b + 1..c],
-            &line[c + 1..d],
-            &line[d + 1..e],
-        );
-    }
-    Word::Unknown
 }
 
 // ── a line told ──
 
-fn begun(front: &[u8]) -> Text
-    requires { length front.now ≤ 128 }
-    ensures { TextIs result front.now }
+/// A text, and numbers behind it with a space before each.
+fn numbered(text: &[u8], numbers: &[u64]) -> Text
+    requires { length text.now + 21 * length numbers.now ≤ 127 }
+    ensures value { result ≡ numbered text.now numbers.now }
+    ensures room { length result ≤ 127 }
 {
-    let mut bytes = [0u8; 128];
-    fields::put(&mut bytes, 0, front);
-    Text {
-        bytes,
-        n: front.len(),
+    let mut told = Text::new().with(text);
+    for &n in numbers {
+        told = told.with(b" ").with(decimals::spell(n).as_slice());
     }
+    told
 }
 
-fn behind(t: Text, more: &[u8]) -> Text
-    requires { t.n + length more.now ≤ 128 }
-    ensures { TextMore result t more.now }
+/// The word by which the tablet refuses; no other number has one.
+fn word_name(word: u8) -> &'static [u8]
+    ensures value { result.now ≡ word_name word }
+    ensures short { length result.now ≤ 8 }
 {
-    let mut bytes = t.bytes;
-    let n = t.n;
-    fields::put(&mut bytes, n, more);
-    Text {
-        bytes,
-        n: n + more.len(),
+    match Refused::try_from(word) {
+        Ok(refused) => refused.name(),
+        Err(_) => b"",
     }
-}
-
-// A space and a number, of at most 20 digits.
-fn with_number(t: Text, n: u64) -> Text
-    requires { t.n + 21 ≤ 128 }
-    ensures number_more { NumberMore result t n }
-    ensures n_bound { result.n ≤ t.n + 21 }
-{
-    let s = behind(t, b" ");
-    let d = decimals::spell(n);
-    let bytes = d.bytes;
-    let from = d.from;
-    behind(s, &bytes[from..])
-}
-
-fn recorded(a: Item, r: Record) -> Text
-    ensures { Holds result (found_text (Recorded a r)) }
-{
-    let s = begun(b"# record");
-    let t = with_number(s, a.0);
-    let u = with_number(t, r.revision.0);
-    let v = with_number(u, r.mass.0);
-    let w = with_number(v, r.offset.0);
-    with_number(w, r.rigging.0)
-}
-
-fn listed(a: Item) -> Text
-    ensures { Holds result (found_text (Listed a)) }
-{
-    let s = begun(b"# empty");
-    with_number(s, a.0)
-}
-
-fn gap(a: Item, b: Item) -> Text
-    ensures { Holds result (found_text (Gap a b)) }
-{
-    let s = begun(b"# gap");
-    let t = with_number(s, a.0);
-    with_number(t, b.0)
-}
-
-fn found(f: Finding) -> Text
-    ensures { Holds result (found_text f) }
-{
-    match f {
-        Finding::Recorded(a, r) => recorded(a, r),
-        Finding::Listed(a) => listed(a),
-        Finding::Gap(a, b) => gap(a, b),
-    }
-}
-
-fn no_item(q: Item) -> Text
-    ensures { Holds result (told_text (NoItem q)) }
-{
-    let s = begun(b"# none");
-    with_number(s, q.0)
-}
-
-fn refused(word: u8) -> Text
-    ensures { Holds result (refused_text ++ word_name word) }
-{
-    let t = begun(b"# refused ");
-    match word {
-        1 => behind(t, b"zero"),
-        2 => behind(t, b"mass"),
-        3 => behind(t, b"listed"),
-        4 => behind(t, b"unlisted"),
-        5 => behind(t, b"recorded"),
-        6 => behind(t, b"empty"),
-        7 => behind(t, b"full"),
-        8 => behind(t, b"top"),
-        _ => t,
-    }
-}
-
-fn module_refused(n: u8) -> Text
-    ensures { Holds result (told_text (ModuleRefused n)) }
-{
-    let s = begun(b"# module refused");
-    with_number(s, n as u64)
 }
 
 fn without_end(t: Telling) -> Text
-    ensures { Holds result (told_text t) }
+    ensures value { result ≡ told_text t }
+    ensures room { length result ≤ 127 }
 {
     match t {
-        Telling::Done => begun(b"# done"),
-        Telling::Found(f) => found(f),
-        Telling::NoItem(q) => no_item(q),
-        Telling::Refused(word) => refused(word),
-        Telling::ModuleRefused(n) => module_refused(n),
-        Telling::Otherwise => begun(b"# module spoke otherwise"),
-        Telling::What => begun(b"# what?"),
+        Telling::Done => Text::new().with(b"# done"),
+        Telling::Found(Finding::Recorded(a, r)) => numbered(
+            b"# record",
+            &[a.0, r.revision.0, r.mass.0, r.offset.0, r.rigging.0],
+        ),
+        Telling::Found(Finding::Listed(a)) => numbered(b"# empty", &[a.0]),
+        Telling::Found(Finding::Gap(a, b)) => numbered(b"# gap", &[a.0, b.0]),
+        Telling::NoItem(q) => numbered(b"# none", &[q.0]),
+        Telling::Refused(word) => Text::new().with(b"# refused ").with(word_name(word)),
+        Telling::ModuleRefused(n) => numbered(b"# module refused", &[n as u64]),
+        Telling::Otherwise => Text::new().with(b"# module spoke otherwise"),
+        Telling::What => Text::new().with(b"# what?"),
     }
 }
 
-// The line that tells it, with its 0A.
+/// The line that tells it, with its 0A.
+#[tactic(auto, unfolding(crate::specs::Telling::told))]
 pub fn tell(t: Telling) -> Text
-    ensures n_value { result.n ≡ length (told t) }
-    ensures n_bound { result.n ≤ 128 }
-    ensures bytes_value { result.bytes ≡ written (told t) (replicate 128 0) }
+    ensures value { result ≡ told t }
+    ensures bound { length result ≤ 128 }
 {
-    let s = without_end(t);
-    behind(s, b"\n")
+    without_end(t).with(b"\n")
 }

@@ -1,36 +1,32 @@
 -- The frame of the part at the step.
-use mathlib.Core.Path.{◌≡◌, ap, ◌∙◌}
-use mathlib.Core.List.{List}
-use Prim.Native.Nat.{ℕ, ◌≤◌}
-use native.Mathlib.Omega.{arith}
-use lib.ListN.{length, take}
+use Rattle.std.proofs.Common.{◌≡◌, ap, sym, ◌∙◌, List, ℕ, length}
 use Rattle.seqs.specs.Over.{written}
 use Rattle.hexadecimal.specs.Hex.{line_of}
 use Rattle.runs.specs.Frames.{frame_of}
 use Rattle.asking.specs.declared.Part.{Part}
-use Rattle.asking.specs.Saying.{request_as, request_at, fitting_length}
-use Rattle.asking.proofs.Lying.{within}
-use borrow.Author.Rules.{rules}
+use Rattle.asking.specs.Saying.{request_as, request_at}
+use Rattle.asking.proofs.Lying.{line_fits, line_not}
 use Rattle.asking.proofs.line.Goals as goal
-use Rattle.asking.proofs.line.Goals.{After-frame_of-f}
+use Rattle.asking.proofs.line.Goals.{After-as_slice-bytes}
 
-module _ (c : After-frame_of-f) where
-  room : c.frame_of-f.result.n ≤ 394
-  room =
-      let size : length c.frame_of-f.result.bytes ≡ 394 = search rules in
-      omega (arith, within c.frame_of-f.ensures, size)
+is : (c : After-as_slice-bytes) → c.as_slice-bytes.result.now ≡ frame_of (request_at c.args.nodes.now c.args.t)
+unfolding request_at
+is c =
+    c.as_slice-bytes.ensures ∙ c.frame_of-frame.ensures
+    ∙ ap (λ (p : Part). frame_of (request_as c.args.nodes.now c.args.t p)) c.part_at.ensures
 
-  is : take c.frame_of-f.result.n c.frame_of-f.result.bytes ≡ frame_of (request_at c.args.nodes.now c.args.t)
-  unfolding request_at
-  is =
-      c.frame_of-f.ensures.here
-      ∙ ap (λ (p : Part). frame_of (request_as c.args.nodes.now c.args.t p)) c.part_at-part.ensures
+pub returns-then-write : goal.returns-then-write
+returns-then-write c =
+    let frame = is (goal.at.returns-then-write c).After-as_slice-bytes in
+    record {
+      value = line_fits (length c.args.out.now) frame (sym c.write.ensures.value ∙ c.if-write.true);
+      out_after = c.write.ensures.space_after ∙ ap (λ (l : List ℕ). written (line_of l) c.args.out.now) frame;
+    }
 
-pub returns : goal.returns
-returns c =
-    let f = c in
-    let d = f.args.out.now in
-    let e = c.write_line.ensures in record { value = e.value ∙ ap (λ (l : List ℕ). fitting_length (line_of l) (length d)) (is (goal.at.returns c).After-frame_of-f); out_after = e.out_after ∙ ap (λ (l : List ℕ). written (line_of l) d) (is (goal.at.returns c).After-frame_of-f) }
-
-pub write_line-requires : goal.write_line-requires
-write_line-requires c = room (goal.at.write_line-requires c).After-frame_of-f
+pub returns-else-write : goal.returns-else-write
+returns-else-write c =
+    let frame = is (goal.at.returns-else-write c).After-as_slice-bytes in
+    record {
+      value = line_not (length c.args.out.now) frame (sym c.write.ensures.value ∙ c.if-write.false);
+      out_after = c.write.ensures.space_after ∙ ap (λ (l : List ℕ). written (line_of l) c.args.out.now) frame;
+    }

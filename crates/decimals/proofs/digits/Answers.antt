@@ -1,48 +1,33 @@
-use mathlib.Core.Path.{sym}
-use Prim.Native.Nat.{◌-◌, ◌^◌, ◌<◌, ◌≤◌}
-use native.Mathlib.Omega.{arith}
-use lib.ListN.{length}
-use Rattle.decimals.proofs.Decimals.{Read, read_none, read_next, below_digits, above_digits, too_large, read_all}
-use borrow.Author.Rules.{rules}
+use Rattle.std.proofs.Common.{sym, ◌∙◌, arith, ◌≤◌, ◌^◌, ◌+◌, ◌*◌, ◌-◌, slice_index_or, true, ◌≡◌}
+use Rattle.decimals.specs.Decimals.{is_decimal}
+use Rattle.decimals.proofs.Decimals.{read_next, no_decimal, as_decimal, too_large, read_all}
 use Rattle.decimals.proofs.digits.Goals as goal
 
-pub loop-i-init : goal.loop-i-init
-loop-i-init c = (omega arith, omega arith, read_none _)
+pub returns-then-not-is_ascii_digit : goal.returns-then-not-is_ascii_digit
+returns-then-not-is_ascii_digit c =
+    let k = c.loop-c in
+    sym (no_decimal c.args.s.now k.c-index k.n c.loop-c-test.true k.invariant.1 (as_decimal _ c.is_ascii_digit.ensures.value ∙ c.if-not-is_ascii_digit.true))
 
-pub returns-then-c-lt48 : goal.returns-then-c-lt48
-returns-then-c-lt48 c =
-    let turn = c in
-    let k = turn.loop-i in
-    sym (below_digits turn.args.s.now k.i k.n turn.loop-i-test.true k.invariant.2 c.if-c-lt48.true)
+pub returns-in_err-checked_mul : goal.returns-in_err-checked_mul
+returns-in_err-checked_mul c =
+    let k = c.loop-c in
+    let large : 2 ^ 64 ≤ 10 * k.n + (slice_index_or c.args.s.now k.c-index 0 - 48) = omega (arith, c.in_err-checked_mul.ensures) in
+    c.from_residual.ensures ∙ sym (too_large c.args.s.now k.c-index k.n c.loop-c-test.true k.invariant.1 large)
 
-pub returns-then-c-gt57 : goal.returns-then-c-gt57
-returns-then-c-gt57 c =
-    let low = c in
-    let turn = low in
-    let k = turn.loop-i in
-    sym (above_digits turn.args.s.now k.i k.n turn.loop-i-test.true k.invariant.2 low.if-c-lt48.false c.if-c-gt57.true)
+pub returns-in_err-n : goal.returns-in_err-n
+returns-in_err-n c =
+    let k = c.loop-c in
+    let large : 2 ^ 64 ≤ 10 * k.n + (slice_index_or c.args.s.now k.c-index 0 - 48) =
+    omega (arith, c.in_ok-checked_mul.ensures, c.in_err-n.ensures) in
+    c.from_residual-in_err-n.ensures ∙ sym (too_large c.args.s.now k.c-index k.n c.loop-c-test.true k.invariant.1 large)
 
-pub returns-then-d-n : goal.returns-then-d-n
-returns-then-d-n c =
-    let high = c in
-    let low = high in
-    let turn = low in
-    let k = turn.loop-i in
-    sym (too_large turn.args.s.now k.i k.n turn.loop-i-test.true k.invariant.2
-    (omega (arith, c.if-d-n.true, low.if-c-lt48.false, high.if-c-gt57.false)))
-
-pub loop-i-preserved : goal.loop-i-preserved
-loop-i-preserved c =
-    let high = c in
-    let low = high in
-    let turn = low in
-    let k = turn.loop-i in (
-      omega (arith, turn.loop-i-test.true),
-      omega (arith, c.if-d-n.false, low.if-c-lt48.false, high.if-c-gt57.false),
-      read_next turn.args.s.now k.i k.n turn.loop-i-test.true k.invariant.2 low.if-c-lt48.false high.if-c-gt57.false,
-    )
+pub loop-c-preserved : goal.loop-c-preserved
+loop-c-preserved c =
+    let k = c.loop-c in
+    let digit : is_decimal (slice_index_or c.args.s.now k.c-index 0) ≡ true = as_decimal _ c.is_ascii_digit.ensures.value ∙ c.if-not-is_ascii_digit.false in
+    (omega (arith, c.in_ok-n.ensures), read_next c.args.s.now k.c-index k.n c.loop-c-test.true k.invariant.1 digit (omega (arith, c.in_ok-checked_mul.ensures, c.in_ok-n.ensures)))
 
 pub returns : goal.returns
 returns c =
-    let k = c.loop-i in
-    sym (read_all c.args.s.now k.i k.n c.loop-i-test.false k.invariant.1 k.invariant.2)
+    let k = c.loop-c in
+    sym (read_all c.args.s.now k.c-index k.n (omega (arith, c.loop-c-test.false)) k.invariant.0 k.invariant.1)

@@ -8,7 +8,6 @@ use Rattle.seqs.specs.Over.{Front, front_next}
 use Rattle.sha256.specs.Hash.{sha256}
 use Rattle.paper.specs.Strings.{enc, leaf}
 use Rattle.records.proofs.Regroup.{behind3}
-use borrow.Author.Rules.{rules}
 use Rattle.digests.proofs.leaf.Goals as goal
 
 pub returns : goal.returns
@@ -18,8 +17,8 @@ returns c =
     let p2 = p3 in
     let p1 = p2 in
     let n = p1 in
-    let n2 = n.spelled-nb in
-    let n1 = n.spelled-na in
+    let n2 = n.spelled-2 in
+    let n1 = n.spelled in
     let s = n in
     let a = s.args in
     let d : List ℕ = replicate 49 1 in

@@ -1,8 +1,7 @@
 -- What is said stands at the front of the array, the secret behind it.
 use mathlib.Core.Path.{◌≡◌, ap, ◌∙◌}
-use Prim.Native.Nat.{ℕ, ◌+◌, ◌-◌, ◌≤◌}
-use native.Mathlib.Omega.{arith}
-use lib.ListN.{length, take}
+use Prim.Native.Nat.{◌≤◌}
+use lib.ListN.{length}
 use Rattle.sha256.specs.Hash.{sha256}
 use Rattle.digests.specs.Speaking.{made_of}
 use Rattle.digests.proofs.Speaking.{made_bytes}
@@ -18,7 +17,6 @@ returns c =
     let size = start.well_formed.1.0.1.0.1 in
     let room : length a.s.bytes ≡ 287 = search rules in
     let few : a.s.length ≤ 255 = search rules in
-    let end : a.s.length + 32 - 0 ≡ a.s.length + 32 = omega arith in
     let bytes = c.digest.ensures
-    ∙ ap sha256 (ap (λ (n : ℕ). take n put.put.new.buffer) end ∙ made_bytes a.s a.secret size room few put.put.ensures) in
+    ∙ ap sha256 (made_bytes a.s a.secret size room few put.put.ensures) in
     λ i. record { bytes = bytes i; blocks = c.blocks-2.ensures i }

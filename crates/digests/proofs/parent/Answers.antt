@@ -8,18 +8,17 @@ use Rattle.seqs.specs.Over.{Front, front_next}
 use Rattle.sha256.specs.Hash.{sha256}
 use Rattle.paper.specs.Strings.{enc, node, H, parent_forms}
 use Rattle.records.proofs.Regroup.{behind2}
-use borrow.Author.Rules.{rules}
 use Rattle.digests.proofs.parent.Goals as goal
 
 pub returns-then-is_zero : goal.returns-then-is_zero
 unfolding H parent_forms
-returns-then-is_zero c = rw (sym c.is_zero.ensures ∙ c.if-is_zero.true)
+returns-then-is_zero c = c.given.ensures ∙ rw (sym c.is_zero.ensures ∙ c.if-is_zero.true)
 
 pub returns-then-is_zero-2 : goal.returns-then-is_zero-2
 unfolding H parent_forms
 returns-then-is_zero-2 c =
     let b = c in
-    rw (sym b.is_zero.ensures ∙ b.if-is_zero.false, sym c.is_zero-2.ensures ∙ c.if-is_zero-2.true)
+    c.given-then-is_zero-2.ensures ∙ rw (sym b.is_zero.ensures ∙ b.if-is_zero.false, sym c.is_zero-2.ensures ∙ c.if-is_zero-2.true)
 
 pub returns : goal.returns
 unfolding H parent_forms enc

@@ -1,51 +1,35 @@
 -- The leaves in both slots, and what changes above them.
-use mathlib.Core.Path.{ap, ◌∙◌}
-use Prim.Native.Nat.{ℕ, ◌+◌}
-use native.Mathlib.Omega.{arith}
+use Rattle.std.proofs.Common.{ℕ, ◌+◌, ap, ◌∙◌}
 use Rattle.sha256.specs.Hash.{sha256}
 use Rattle.edits.specs.Changes.{forked_at}
-use Rattle.slots.proofs.Turns.{meeting_most}
 use Rattle.edits.proofs.Places.{two_none_left, two_none_right, two_is}
-use borrow.Author.Rules.{rules}
 use Rattle.edits.proofs.two_places.Goals as goal
+use Rattle.edits.proofs.two_places.Goals.{then-i-ge-SLOTS-via-then-i-ge-SLOTS, then-i-ge-SLOTS-via-else-i-ge-SLOTS+then-j-ge-SLOTS}
 
 pub returns-then-i-ge-SLOTS : goal.returns-then-i-ge-SLOTS
 returns-then-i-ge-SLOTS c =
     let a = c.args in
-    c.no_place.ensures ∙ two_none_left sha256 a.nodes.now a.i a.j a.x a.w c.if-i-ge-SLOTS.true
-
-pub returns-then-j-ge-SLOTS : goal.returns-then-j-ge-SLOTS
-returns-then-j-ge-SLOTS c =
-    let there = c in
-    let a = there.args in
-    c.no_place-then-j-ge-SLOTS.ensures ∙ two_none_right sha256 a.nodes.now a.i a.j a.x a.w there.if-i-ge-SLOTS.false c.if-j-ge-SLOTS.true
-
-pub above_two-f-requires : goal.above_two-f-requires
-above_two-f-requires c =
-    let meets = c in
-    let a = meets.args in
-    omega (arith, meets.meeting_of-k.ensures, meeting_most 9 (1024 + a.i) (1024 + a.j))
+    c.no_place.ensures
+    ∙ elim c.then-i-ge-SLOTS.branch [
+      | then-i-ge-SLOTS-via-then-i-ge-SLOTS w ↦ two_none_left sha256 a.nodes.now a.i a.j a.x a.w w.if-i-ge-SLOTS.true
+      | then-i-ge-SLOTS-via-else-i-ge-SLOTS+then-j-ge-SLOTS w ↦
+          two_none_right sha256 a.nodes.now a.i a.j a.x a.w w.if-i-ge-SLOTS.false w.if-j-ge-SLOTS.true
+    ]
 
 pub returns : goal.returns
 returns c =
-    let above = c in
-    let right = above in
-    let left = right in
-    let meets = left in
-    let there = meets in
-    let a = there.args in
-    let k_is = meets.meeting_of-k.ensures in
-    let f-is = above.above_two-f.ensures
-    ∙ ap (λ (k : ℕ). forked_at sha256 a.nodes.now (1024 + a.i) (1024 + a.j) k a.x a.w) k_is in
+    let a = c.args in
+    let k_is = c.meeting_of-k.ensures in
+    let f-is = c.above_two-f.ensures ∙ ap (λ (k : ℕ). forked_at sha256 a.nodes.now (1024 + a.i) (1024 + a.j) k a.x a.w) k_is in
     (λ i. record {
       left = a.i;
       right = a.j;
       levels = k_is i;
-      a = left.risen-a.ensures i;
-      b = right.risen-b.ensures i;
+      a = c.risen.ensures i;
+      b = c.risen-2.ensures i;
       y = (f-is i).y;
       z = (f-is i).z;
       node = (f-is i).node;
       root = (f-is i).root;
     })
-    ∙ two_is sha256 a.nodes.now a.i a.j a.x a.w there.if-i-ge-SLOTS.false there.if-j-ge-SLOTS.false
+    ∙ two_is sha256 a.nodes.now a.i a.j a.x a.w c.if-i-ge-SLOTS.false c.if-j-ge-SLOTS.false

@@ -1,7 +1,7 @@
 use mathlib.Core.Bool.{Bool, true, false}
 use mathlib.Core.List.{List}
 use mathlib.Core.Path.{◌≡◌, refl, sym, ap, ap₂, ◌∙◌}
-use Prim.Native.Nat.{ℕ, ◌+◌, ◌-◌, ◌<◌, ◌≤◌}
+use Prim.Native.Nat.{ℕ, ◌+◌, ◌<◌}
 use native.Mathlib.Omega.{arith}
 use borrow.Author.Tests.{eqb-true, eqb-false, eq-eqb, ne_eqb}
 use lib.Bits.{bit_or, bit_xor, or_add_and, xor_add_and, xor_self, and_le_l, and_le_r}
@@ -9,7 +9,6 @@ use lib.Dec.{eqb}
 use lib.ListN.{length, get_or, drop}
 use Rattle.seqs.specs.Bytes.{same, same_step, same_end}
 use Rattle.seqs.specs.Choose.{both, both_right}
-use borrow.Author.Rules.{rules}
 use Rattle.fields.proofs.same_digest.Goals as goal
 
 -- no bit of either
@@ -43,23 +42,18 @@ turn l m d i h k =
     rw (same_step l m i (eqb (get_or l i 0) (get_or m i 0)) h k refl, gathered d (get_or l i 0) (get_or m i 0) _ _ refl refl)
     (both-assoc (eqb d 0) (eqb (get_or l i 0) (get_or m i 0)) (same (drop (i + 1) l) (drop (i + 1) m)))
 
-pub loop-at-init : goal.loop-at-init
-loop-at-init c = (search rules, refl)
-
 pub loop-at-preserved : goal.loop-at-preserved
 loop-at-preserved c =
-    let s = c in
-    let n : length s.args.a ≡ 32 = s.well_formed.0.1.0.1 in
-    let m : length s.args.b ≡ 32 = s.well_formed.1.0.1.0.1 in
+    let n : length c.args.a ≡ 32 = c.well_formed.0.1.0.1 in
+    let m : length c.args.b ≡ 32 = c.well_formed.1.0.1.0.1 in
     let k = c.loop-at in
-    (omega arith, k.invariant.1 ∙ turn s.args.a s.args.b k.differ k.at (omega arith) (omega arith))
+    k.invariant ∙ turn c.args.a c.args.b k.differ k.at (omega arith) (omega arith)
 
 pub returns : goal.returns
 returns c =
-    let s = c in
-    let n : length s.args.a ≡ 32 = s.well_formed.0.1.0.1 in
-    let m : length s.args.b ≡ 32 = s.well_formed.1.0.1.0.1 in
+    let n : length c.args.a ≡ 32 = c.well_formed.0.1.0.1 in
+    let m : length c.args.b ≡ 32 = c.well_formed.1.0.1.0.1 in
     let k = c.loop-at in
-    sym (k.invariant.1
-    ∙ ap (both (eqb k.differ 0)) (same_end s.args.a s.args.b k.at (omega arith) (omega arith))
+    sym (k.invariant
+    ∙ ap (both (eqb k.differ 0)) (same_end c.args.a c.args.b k.at (omega arith) (omega arith))
     ∙ both_right (eqb k.differ 0))

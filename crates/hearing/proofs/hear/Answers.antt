@@ -1,28 +1,18 @@
 -- By whether the reply is as awaited and whether its line commits.
-use mathlib.Core.Path.{◌≡◌, sym, ap, ◌∙◌}
-use native.Mathlib.Omega.{arith}
-use lib.ListN.{length}
+use Rattle.std.proofs.Common.{◌≡◌, sym, ap, ◌∙◌}
 use Rattle.sha256.specs.Hash.{sha256}
 use Rattle.hearing.specs.Awaiting.{Awaited, awaited_as, awaited_at, replies, as_awaited}
 use Rattle.hearing.specs.Hearing.{committing, answered_by, committed_talk}
-use Rattle.hearing.proofs.Fronts.{within, known_is}
 use Rattle.hearing.proofs.Outcomes.{not_heard, going_heard, committed_heard}
-use borrow.Author.Rules.{rules}
 use Rattle.hearing.proofs.hear.Goals as goal
 use Rattle.hearing.proofs.hear.Goals.{After-fits}
-
-pub fits-requires : goal.fits-requires
-fits-requires c =
-    let size : length c.awaited-k.result.bytes ≡ 65 = search rules in
-    omega (arith, within c.awaited-k.ensures, size)
 
 -- what is awaited at the talk's step
 heard_is : (c : After-fits) → c.fits.result ≡ as_awaited c.args.t c.args.reply.now
 unfolding awaited_at
 heard_is c =
     c.fits.ensures
-    ∙ ap (λ (w : Awaited). replies w c.args.reply.now)
-    (known_is c.awaited-k.ensures ∙ ap (awaited_as c.args.t) c.part_at-part.ensures)
+    ∙ ap (λ (w : Awaited). replies w c.args.reply.now) (c.awaited-known.ensures ∙ ap (awaited_as c.args.t) c.part_at-part.ensures)
 
 pub returns-then-not-fits : goal.returns-then-not-fits
 returns-then-not-fits c =

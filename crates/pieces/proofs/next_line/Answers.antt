@@ -1,14 +1,13 @@
 use mathlib.Core.Path.{◌≡◌, refl, sym, ap, ◌∙◌}
 use mathlib.Core.Bool.{false}
 use mathlib.Core.List.{List}
-use Prim.Native.Nat.{ℕ, ◌+◌, ◌-◌, ◌<◌}
+use Prim.Native.Nat.{ℕ, ◌+◌, ◌<◌}
 use native.Mathlib.Omega.{arith}
 use borrow.Author.Tests.{eq-eqb, ne_eqb, lt-ltb, le-ltb}
 use lib.ListN.{length, drop, get_or, length-set}
 use Rattle.pieces.specs.Feeding.{feed_byte, feed_bytes}
 use Rattle.pieces.specs.Cutting.{Sought, seeking, sought_in, cut_of}
 use Rattle.pieces.proofs.Laws.{at_place, stays, feed_next, feed_end}
-use borrow.Author.Rules.{rules}
 use Rattle.pieces.proofs.next_line.Goals as goal
 use Rattle.pieces.proofs.next_line.Goals.{At-loop-i, then-n-line, else-n-line}
 
@@ -34,15 +33,16 @@ told s t e = (ap cut_of (sym e), ap (λ (x : Sought). x.held.space) (sym e))
 
 pub returns-then-b-eq10 : goal.returns-then-b-eq10
 returns-then-b-eq10 c =
-    let l = c in let both = told _ (seeking.line_end (here (goal.at.returns-then-b-eq10 c).At-loop-i))
-    (next (goal.at.returns-then-b-eq10 c).At-loop-i (omega arith) ∙ rw (eq-eqb _ _ c.if-b-eq10.true) (stays seeking (drop (l.loop-i.i + 1) (piece (goal.at.returns-then-b-eq10 c).At-loop-i)) _ refl)) in record { value = both.0; line_after = both.1 }
+    let l = (goal.at.returns-then-b-eq10 c).At-loop-i in
+    let i = c.loop-i.i in
+    let end = next l (omega arith) ∙ rw (eq-eqb _ _ c.if-b-eq10.true) (stays seeking (drop (i + 1) (piece l)) _ refl) in
+    let both = told _ (seeking.line_end (here l)) end in
+    record { value = both.0; line_after = both.1 }
 
 pub loop-i-preserved : goal.loop-i-preserved
 loop-i-preserved c =
-    let b = c in
-    let l = b in
-    let e = l.loop-i.invariant.0 in
-    let q = ne_eqb _ _ b.if-b-eq10.false in
+    let e = c.loop-i.invariant.0 in
+    let q = ne_eqb _ _ c.if-b-eq10.false in
     let f = next (goal.at.loop-i-preserved c).At-loop-i (omega arith) in
     elim c.if-n-line.branch [
       | then-n-line w ↦ rw (w.line-is, w.n-is) (simp length-set e, f ∙ rw (q, lt-ltb _ _ w.if-n-line.true))
@@ -51,4 +51,6 @@ loop-i-preserved c =
 
 pub returns : goal.returns
 returns c =
-    let l = c in let both = told _ (here (goal.at.returns c).At-loop-i) (l.loop-i.invariant.1 ∙ feed_end seeking (piece (goal.at.returns c).At-loop-i) l.loop-i.i (here (goal.at.returns c).At-loop-i) c.loop-i-test.false) in record { value = both.0; line_after = both.1 }
+    let l = (goal.at.returns c).At-loop-i in
+    let both = told _ (here l) (c.loop-i.invariant.1 ∙ feed_end seeking (piece l) c.loop-i.i (here l) c.loop-i-test.false) in
+    record { value = both.0; line_after = both.1 }

@@ -1,49 +1,31 @@
-use mathlib.Core.Path.{◌≡◌, refl, ap, sym, ◌∙◌}
-use mathlib.Core.List.{List}
-use Prim.Native.Nat.{ℕ, ◌+◌, ◌-◌, ◌/◌, ◌≤◌}
-use native.Mathlib.Omega.{arith}
-use borrow.Author.Rules.{rules}
-use lib.ListN.{length}
-use Rattle.seqs.specs.Over.{put_at, put_length}
+use Rattle.std.proofs.Common.{◌≡◌, ℕ, ◌+◌, ◌-◌, ◌/◌, sym, ap, ◌∙◌, arith}
+use Rattle.seqs.specs.Over.{put_at}
 use Rattle.slots.specs.Nodes.{sibling_at, siblings_put}
 use Rattle.slots.proofs.Turns.{start, put_next, ended, put_past}
 use Rattle.slots.proofs.put_siblings.Goals as goal
 
-pub loop-i-init : goal.loop-i-init
-loop-i-init c =
+pub loop-init : goal.loop-init
+loop-init c =
     let a = c.args in
-    (omega arith, refl, ap (λ (n : ℕ). siblings_put a.nodes.now n a.v a.at a.frame.now) (start a.levels))
-
-pub shape_of-frame-then-frame-p : goal.shape_of-frame-then-frame-p
-shape_of-frame-then-frame-p c = c.loop-i.invariant.1
+    ap (λ (n : ℕ). siblings_put a.nodes.now n a.v a.at a.frame.now) (start a.levels)
 
 pub returns-then-frame-p : goal.returns-then-frame-p
 returns-then-frame-p c =
     let a = c.args in
-    let k = c.loop-i in
-    sym (k.invariant.2 ∙ put_past a.nodes.now (a.levels - k.i) k.u k.p k.frame c.if-frame-p.true)
+    let k = c.loop in
+    sym (k.invariant ∙ put_past a.nodes.now (a.levels - k.counter) k.u k.p k.frame c.if-frame-p.true)
 
-pub loop-i-preserved : goal.loop-i-preserved
-loop-i-preserved c =
-    let put = c in
-    let beside = put in
-    let head = beside in
-    let a = head.args in
-    let k = head.loop-i in
+pub loop-preserved : goal.loop-preserved
+loop-preserved c =
+    let a = c.args in
+    let k = c.loop in
     let m = a.nodes.now in
-    let e : put.put.new.buffer ≡ put_at k.frame k.p (sibling_at m k.u) =
-    put.put.ensures ∙ ap (put_at k.frame k.p) beside.sibling-s.ensures in (
-      omega arith,
-      ap (λ (l : List ℕ). length l) e ∙ put_length k.frame k.p _ ∙ k.invariant.1,
-      k.invariant.2 ∙ put_next m a.levels k.i k.u k.p k.frame (omega arith)
-          ∙ ap (siblings_put m (a.levels - (k.i + 1)) (k.u / 2) (k.p + 32)) (sym e),
-    )
-
-pub shape_of-frame : goal.shape_of-frame
-shape_of-frame c = c.loop-i.invariant.1
+    let e : c.put.new.buffer ≡ put_at k.frame k.p (sibling_at m k.u) = c.put.ensures ∙ ap (put_at k.frame k.p) c.sibling.ensures in
+    k.invariant ∙ put_next m a.levels k.counter k.u k.p k.frame (omega arith)
+    ∙ ap (siblings_put m (a.levels - (k.counter + 1)) (k.u / 2) (k.p + 32)) (sym e)
 
 pub returns : goal.returns
 returns c =
     let a = c.args in
-    let k = c.loop-i in
-    sym (k.invariant.2 ∙ ap (λ (n : ℕ). siblings_put a.nodes.now n k.u k.p k.frame) (ended a.levels k.i (omega arith)))
+    let k = c.loop in
+    sym (k.invariant ∙ ap (λ (n : ℕ). siblings_put a.nodes.now n k.u k.p k.frame) (ended a.levels k.counter (omega arith)))

@@ -1,40 +1,38 @@
-use mathlib.Core.Path.{sym, ◌∙◌}
+use mathlib.Core.Path.{◌≡◌, sym, ap, subst, ◌∙◌}
+use Prim.Native.Nat.{ℕ, ◌+◌, ◌*◌, ◌/◌}
 use native.Mathlib.Omega.{arith}
-use Prim.Native.Nat.{◌+◌, ◌-◌, ◌≤◌}
-use borrow.Author.Tests.{not-true, not-false}
 use lib.ListN.{length}
-use Rattle.store.proofs.Texts.{Passed, passed_none, passed_on, stopped_at, all_passed_lem}
-use borrow.Author.Rules.{rules}
+use Rattle.std.specs.Prelude.{Ok, Err}
+use Rattle.store.proofs.Texts.{Passed, passed_none, front_short, front_from, passed_on, stopped_at, all_passed_lem}
 use Rattle.store.proofs.count_lines.Goals as goal
-use Rattle.store.proofs.count_lines.Goals.{Else-not-readable}
 
-pub loop-at-init : goal.loop-at-init
-loop-at-init c = (omega arith, omega arith, passed_none _)
+pub returns-then-not-begins : goal.returns-then-not-begins
+returns-then-not-begins c =
+    let t = c.args.text.now in
+    let at = 97 * c.loop-n.n in
+    sym (stopped_at t at c.loop-n.n (omega arith) c.loop-n.invariant (sym (front_from t at) ∙ sym c.begins.ensures ∙ c.if-not-begins.true))
 
-pub returns-then-not-readable : goal.returns-then-not-readable
-returns-then-not-readable c =
-    let k = c.loop-at in
-    sym (stopped_at _ k.at k.n c.loop-at-test.true k.invariant.2
-    (sym c.readable.ensures ∙ c.if-not-readable.true))
+pub loop-n-preserved : goal.loop-n-preserved
+loop-n-preserved c =
+    let t = c.args.text.now in
+    let n = c.loop-n.n in
+    let next : 97 * n + 97 ≡ 97 * (n + 1) = omega arith in
+    subst (λ (at : ℕ). Passed t at (n + 1)) next
+    (passed_on t (97 * n) n c.loop-n.invariant (sym (front_from t (97 * n)) ∙ sym c.begins.ensures ∙ c.if-not-begins.false)).0
 
-on : (c : Else-not-readable)
-    → (let k = c.loop-at in let t = c.args.text.now in
-    Passed t (k.at + 97) (k.n + 1) × (k.at + 97 ≤ length t))
-on c =
-    let k = c.loop-at in
-    passed_on _ k.at k.n k.invariant.2 (sym c.readable.ensures ∙ c.if-not-readable.false)
+pub returns-then-text-eq0 : goal.returns-then-text-eq0
+returns-then-text-eq0 c =
+    let t = c.args.text.now in
+    let n = c.loop-n.n in
+    let all : length t / 97 ≡ n = omega arith in
+    ap Ok all ∙ sym (all_passed_lem t (97 * n) n (omega arith) c.loop-n.invariant)
 
-pub loop-at-smaller : goal.loop-at-smaller
-loop-at-smaller c = omega (arith, (on c).1)
+pub returns-else-text-eq0 : goal.returns-else-text-eq0
+returns-else-text-eq0 c =
+    let t = c.args.text.now in
+    let n = c.loop-n.n in
+    let all : length t / 97 ≡ n = omega arith in
+    ap Err all ∙ sym (stopped_at t (97 * n) n (omega arith) c.loop-n.invariant (front_short t (97 * n) (omega arith)))
 
-pub loop-at-preserved : goal.loop-at-preserved
-loop-at-preserved c = let k = c.loop-at in ((on c).1, omega (arith, k.invariant.1), (on c).0)
-
-pub returns : goal.returns
-returns c = let k = c.loop-at in sym (all_passed_lem _ k.at k.n c.loop-at-test.false k.invariant.2)
-
-pub overflow_add-at : goal.overflow_add-at
-overflow_add-at c = search (rules, (on c).1)
-
-pub overflow_add-n : goal.overflow_add-n
-overflow_add-n c = search (rules, (on c).1)
+pub loop-n-init : goal.loop-n-init
+loop-n-init c = passed_none c.args.text.now

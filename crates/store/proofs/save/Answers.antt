@@ -1,60 +1,53 @@
 use mathlib.Core.Path.{◌≡◌, refl, sym, ap, subst, ◌∙◌}
-use mathlib.Core.List.{List, ◌++◌, append-nil}
-use Prim.Native.Nat.{ℕ, ◌+◌, ◌-◌, ◌*◌, ◌≤◌, ◌<◌}
+use mathlib.Core.List.{List, ◌++◌}
+use Prim.Native.Nat.{ℕ, ◌+◌, ◌-◌, ◌*◌, ◌≤◌}
 use native.Mathlib.Omega.{arith}
-use borrow.Author.Tests.{le-leb, lt-leb}
-use lib.ListN.{length, drop, replicate, length-append, length-drop}
-use Rattle.seqs.specs.Over.{written, written_fits, written_not, Front, front_next}
-use Rattle.rows.specs.declared.Row.{Row}
+use borrow.Author.Tests.{le-leb}
+use lib.ListN.{length, take, drop, length-append, length-drop, length-take}
+use Rattle.seqs.specs.Over.{written_fits, written_not, Front}
 use Rattle.rows.specs.Rows.{row_at, rows_from}
 use Rattle.store.specs.Lines.{line_of_row}
 use Rattle.store.specs.Texts.{text_of}
-use Rattle.store.proofs.Saved.{line_long, text_long, text_next}
-use borrow.Author.Rules.{rules}
+use borrow.Rule.Slice.PartMut.{put_mid}
+use Rattle.store.proofs.Saved.{line_long, text_long, text_next, front_mid, filled}
 use Rattle.store.proofs.save.Goals as goal
 
-pub returns-then-space-k : goal.returns-then-space-k
-returns-then-space-k c =
+pub returns-then-space-k-clause-space_after : goal.returns-then-space-k-clause-space_after
+returns-then-space-k-clause-space_after c =
     let a = c.args in
-    let short : length a.space.now < 97 * a.k = omega (arith, c.if-space-k.true) in record { value = sym (lt-leb (97 * a.k) (length a.space.now) short); space_after = sym (written_not _ a.space.now (97 * a.k) (text_long a.leaves.now a.k 0) short) }
+    sym (written_not _ a.space.now (97 * a.k) (text_long a.leaves.now a.k 0) (omega arith))
 
 pub loop-i-init : goal.loop-i-init
-loop-i-init c = (omega arith, refl, omega (arith, c.if-space-k.false), record { here = refl; long = refl })
-
--- a line fills its space
-filled : (r : Row) → written (line_of_row r) (replicate 97 0) ≡ line_of_row r
-filled r = written_fits (line_of_row r) (replicate 97 0) 97 (line_long r) (omega arith) ∙ append-nil (line_of_row r)
+loop-i-init c = (refl, omega arith, record { here = refl; long = refl })
 
 pub loop-i-preserved : goal.loop-i-preserved
 loop-i-preserved c =
-    let put = c in
-    let line = put in
-    let row = line in
-    let k = row.loop-i in
-    let a = row.args in
+    let k = c.loop-i in
+    let a = c.args in
     let text = text_of (rows_from a.leaves.now k.i 0) in
-    let is_line_lem = line.write_line.ensures.space_after ∙ filled _ ∙ ap line_of_row row.row_at-r.ensures in
-    let size = ap length is_line_lem ∙ line_long (row_at a.leaves.now k.i) in
-    let less : k.i < a.k = row.loop-i-test.true in
-    let next = front_next put.put.new.buffer _ 97 (97 * (k.i + 1)) k.invariant.3 put.put.ensures size (omega arith) (omega (arith, k.invariant.2, less)) in
-    let grown = ap (λ (l : List ℕ). text ++ l) is_line_lem ∙ text_next a.leaves.now k.i in
-    let room : 97 * (k.i + 1) ≤ length a.space.now = omega (arith, k.invariant.2, less) in (
-      omega (arith, less),
+    let wide = 97 * k.i + 97 - 97 * k.i in
+    let room : 97 * (k.i + 1) ≤ length a.space.now = omega (arith, k.invariant.1, c.loop-i-test.true) in
+    let inside : 97 * (k.i + 1) ≤ length k.space = omega (arith, k.invariant.0, room) in
+    let part : length (take wide (drop (97 * k.i) k.space)) ≡ 97 = simp (length-take, length-drop) (omega (arith, inside)) in
+    let is_line_lem = c.write_line.ensures.space_after ∙ filled _ _ part ∙ ap line_of_row c.row_at.ensures in
+    let size : length c.write_line.new.space ≡ wide = ap length is_line_lem ∙ line_long (row_at a.leaves.now k.i) ∙ omega arith in
+    let next = front_mid (put_mid (97 * k.i) wide k.space c.write_line.new.space) c.write_line.new.space wide (97 * (k.i + 1)) k.invariant.2 refl size (omega arith) room inside in
+    let grown = ap (λ (l : List ℕ). text ++ l) is_line_lem ∙ text_next a.leaves.now k.i in (
       ap length next.here ∙ simp (length-append, length-drop) (omega (arith, next.long, room)),
-      k.invariant.2,
-      subst (λ (l : List ℕ). Front a.space.now put.put.new.buffer l (97 * (k.i + 1))) grown next,
+      k.invariant.1,
+      subst (λ (l : List ℕ). Front a.space.now (put_mid (97 * k.i) wide k.space c.write_line.new.space) l (97 * (k.i + 1))) grown next,
     )
 
 pub shape_of-space : goal.shape_of-space
-shape_of-space c = c.loop-i.invariant.1
+shape_of-space c = c.loop-i.invariant.0
 
 pub returns : goal.returns
 returns c =
     let k = c.loop-i in
     let a = c.args in
-    let all : k.i ≡ a.k = omega (arith, c.loop-i-test.false, k.invariant.0) in
+    let all : k.i ≡ a.k = omega arith in
     let text = text_of (rows_from a.leaves.now a.k 0) in record {
-      value = sym (le-leb (97 * a.k) (length a.space.now) k.invariant.2);
-      space_after = k.invariant.3.here ∙ ap (λ (n : ℕ). text_of (rows_from a.leaves.now n 0) ++ drop (97 * n) a.space.now) all
-          ∙ sym (written_fits text a.space.now (97 * a.k) (text_long a.leaves.now a.k 0) k.invariant.2);
+      value = sym (le-leb (97 * a.k) (length a.space.now) k.invariant.1);
+      space_after = k.invariant.2.here ∙ ap (λ (n : ℕ). text_of (rows_from a.leaves.now n 0) ++ drop (97 * n) a.space.now) all
+          ∙ sym (written_fits text a.space.now (97 * a.k) (text_long a.leaves.now a.k 0) k.invariant.1);
     }

@@ -5,7 +5,6 @@ use Prim.Native.Nat.{ℕ}
 use native.Mathlib.Omega.{arith}
 use lib.ListN.{replicate}
 use Rattle.seqs.specs.Over.{Front, front_next}
-use borrow.Author.Rules.{rules}
 use Rattle.tree_kinds.proofs.path_lists.Goals as goal
 
 pub returns : goal.returns

@@ -1,86 +1,63 @@
--- Word by word.
-use mathlib.Core.Path.{sym, ap, ◌∙◌}
-use mathlib.Core.List.{List, ◌∷◌}
-use Prim.Native.Nat.{ℕ, ◌+◌}
-use lib.ListN.{drop}
-use Rattle.words.specs.Reading.{saying_of, word_in}
-use Rattle.words.proofs.Cuts.{between, cut_last, cut_more, sixth}
-use borrow.Author.Rules.{rules}
+-- The words one after the other, as far as they were looked for.
+use Rattle.std.proofs.Common.{sym}
+use Rattle.words.specs.Reading.{word_in}
+use Rattle.words.proofs.Cuts.{sixth}
 use Rattle.words.proofs.read.Goals as goal
 
-pub returns-then-a-n : goal.returns-then-a-n
+pub returns-in_err-rest : goal.returns-in_err-rest
 unfolding word_in
-returns-then-a-n c =
-    let l = c.args.line.now in
-    let end1 = c.word_end-a in
-    let words = cut_last l 0 end1.result end1.ensures c.if-a-n.true in
-    sym (ap saying_of words)
+returns-in_err-rest c =
+    let one = rw c.in_err-rest.was at c.first_word.ensures in
+    rw one c.from_residual.ensures
 
-pub returns-then-b-n : goal.returns-then-b-n
+pub returns-in_err-read : goal.returns-in_err-read
 unfolding word_in
-returns-then-b-n c =
-    let l = c.args.line.now in
-    let end1 = c.word_end-a in
-    let end2 = c.word_end-b in
-    let words = cut_more l 0 end1.result end1.ensures c.if-a-n.false
-    ∙ ap (λ (ws : List (List ℕ)). between l 0 end1.result ∷ ws) (cut_last l (end1.result + 1) end2.result end2.ensures c.if-b-n.true) in
-    c.by_one.ensures ∙ sym (ap saying_of words)
+returns-in_err-read c =
+    let one = rw c.in_ok-rest.was at c.first_word.ensures in
+    let two = rw c.in_default.is at c.first_word-2.ensures in
+    rw (one, two, ← c.in_err-read.ensures) c.from_residual-in_err-read.ensures
 
-pub returns-then-c-n : goal.returns-then-c-n
+pub returns-in_default : goal.returns-in_default
 unfolding word_in
-returns-then-c-n c =
-    let l = c.args.line.now in
-    let end1 = c.word_end-a in
-    let end2 = c.word_end-b in
-    let end3 = c.word_end-c in
-    let words = cut_more l 0 end1.result end1.ensures c.if-a-n.false
-    ∙ ap (λ (ws : List (List ℕ)). between l 0 end1.result ∷ ws) (cut_more l (end1.result + 1) end2.result end2.ensures c.if-b-n.false)
-    ∙ ap (λ (ws : List (List ℕ)). between l 0 end1.result ∷ between l (end1.result + 1) end2.result ∷ ws) (cut_last l (end2.result + 1) end3.result end3.ensures c.if-c-n.true) in
-    sym (ap saying_of words)
+returns-in_default c =
+    let one = rw c.in_ok-rest.was at c.first_word.ensures in
+    let two = rw c.in_default.is at c.first_word-2.ensures in
+    rw (one, two, ← c.in_ok-read.ensures) c.by_name.ensures
 
-pub returns-then-d-n : goal.returns-then-d-n
+pub returns-in_err-rest-2 : goal.returns-in_err-rest-2
 unfolding word_in
-returns-then-d-n c =
-    let l = c.args.line.now in
-    let end1 = c.word_end-a in
-    let end2 = c.word_end-b in
-    let end3 = c.word_end-c in
-    let end4 = c.word_end-d in
-    let words = cut_more l 0 end1.result end1.ensures c.if-a-n.false
-    ∙ ap (λ (ws : List (List ℕ)). between l 0 end1.result ∷ ws) (cut_more l (end1.result + 1) end2.result end2.ensures c.if-b-n.false)
-    ∙ ap (λ (ws : List (List ℕ)). between l 0 end1.result ∷ between l (end1.result + 1) end2.result ∷ ws) (cut_more l (end2.result + 1) end3.result end3.ensures c.if-c-n.false)
-    ∙ ap (λ (ws : List (List ℕ)). between l 0 end1.result ∷ between l (end1.result + 1) end2.result ∷ between l (end2.result + 1) end3.result ∷ ws) (cut_last l (end3.result + 1) end4.result end4.ensures c.if-d-n.true) in
-    sym (ap saying_of words)
+returns-in_err-rest-2 c =
+    let one = rw c.in_ok-rest.was at c.first_word.ensures in
+    let two = rw c.in-Some.is at c.first_word-2.ensures in
+    let three = rw c.in_err-rest-2.was at c.first_word-3.ensures in
+    rw (one, two, three) c.from_residual-in_err-rest-2.ensures
 
-pub returns-then-e-n : goal.returns-then-e-n
+pub returns-in_err-rest-3 : goal.returns-in_err-rest-3
 unfolding word_in
-returns-then-e-n c =
-    let l = c.args.line.now in
-    let end1 = c.word_end-a in
-    let end2 = c.word_end-b in
-    let end3 = c.word_end-c in
-    let end4 = c.word_end-d in
-    let end5 = c.word_end-e in
-    let words = cut_more l 0 end1.result end1.ensures c.if-a-n.false
-    ∙ ap (λ (ws : List (List ℕ)). between l 0 end1.result ∷ ws) (cut_more l (end1.result + 1) end2.result end2.ensures c.if-b-n.false)
-    ∙ ap (λ (ws : List (List ℕ)). between l 0 end1.result ∷ between l (end1.result + 1) end2.result ∷ ws) (cut_more l (end2.result + 1) end3.result end3.ensures c.if-c-n.false)
-    ∙ ap (λ (ws : List (List ℕ)). between l 0 end1.result ∷ between l (end1.result + 1) end2.result ∷ between l (end2.result + 1) end3.result ∷ ws) (cut_more l (end3.result + 1) end4.result end4.ensures c.if-d-n.false)
-    ∙ ap (λ (ws : List (List ℕ)). between l 0 end1.result ∷ between l (end1.result + 1) end2.result ∷ between l (end2.result + 1) end3.result ∷ between l (end3.result + 1) end4.result ∷ ws) (cut_last l (end4.result + 1) end5.result end5.ensures c.if-e-n.true) in
-    c.by_four.ensures ∙ sym (ap saying_of words)
+returns-in_err-rest-3 c =
+    let one = rw c.in_ok-rest.was at c.first_word.ensures in
+    let two = rw c.in-Some.is at c.first_word-2.ensures in
+    let three = rw c.in_ok-rest-2.was at c.first_word-3.ensures in
+    let four = rw c.in_err-rest-3.was at c.first_word-4.ensures in
+    rw (one, two, three, four) c.from_residual-in_err-rest-3.ensures
 
-pub returns : goal.returns
+pub returns-in-None : goal.returns-in-None
 unfolding word_in
-returns c =
-    let l = c.args.line.now in
-    let end1 = c.word_end-a in
-    let end2 = c.word_end-b in
-    let end3 = c.word_end-c in
-    let end4 = c.word_end-d in
-    let end5 = c.word_end-e in
-    let words = cut_more l 0 end1.result end1.ensures c.if-a-n.false
-    ∙ ap (λ (ws : List (List ℕ)). between l 0 end1.result ∷ ws) (cut_more l (end1.result + 1) end2.result end2.ensures c.if-b-n.false)
-    ∙ ap (λ (ws : List (List ℕ)). between l 0 end1.result ∷ between l (end1.result + 1) end2.result ∷ ws) (cut_more l (end2.result + 1) end3.result end3.ensures c.if-c-n.false)
-    ∙ ap (λ (ws : List (List ℕ)). between l 0 end1.result ∷ between l (end1.result + 1) end2.result ∷ between l (end2.result + 1) end3.result ∷ ws) (cut_more l (end3.result + 1) end4.result end4.ensures c.if-d-n.false)
-    ∙ ap (λ (ws : List (List ℕ)). between l 0 end1.result ∷ between l (end1.result + 1) end2.result ∷ between l (end2.result + 1) end3.result ∷ between l (end3.result + 1) end4.result ∷ ws) (cut_more l (end4.result + 1) end5.result end5.ensures c.if-e-n.false) in
-    sym (ap saying_of words ∙ sixth (between l 0 end1.result) (between l (end1.result + 1) end2.result) (between l (end2.result + 1) end3.result)
-    (between l (end3.result + 1) end4.result) (between l (end4.result + 1) end5.result) (drop (end5.result + 1) l))
+returns-in-None c =
+    let one = rw c.in_ok-rest.was at c.first_word.ensures in
+    let two = rw c.in-Some.is at c.first_word-2.ensures in
+    let three = rw c.in_ok-rest-2.was at c.first_word-3.ensures in
+    let four = rw c.in_ok-rest-3.was at c.first_word-4.ensures in
+    let five = rw c.in-None.is at c.first_word-5.ensures in
+    rw (one, two, three, four, five) c.by_four.ensures
+
+pub returns-in-Some-rest : goal.returns-in-Some-rest
+unfolding word_in
+returns-in-Some-rest c =
+    let one = rw c.in_ok-rest.was at c.first_word.ensures in
+    let two = rw c.in-Some.is at c.first_word-2.ensures in
+    let three = rw c.in_ok-rest-2.was at c.first_word-3.ensures in
+    let four = rw c.in_ok-rest-3.was at c.first_word-4.ensures in
+    let five = rw c.in-Some-rest.is at c.first_word-5.ensures in
+    rw (one, two, three, four, five) (sym (sixth c.first_word.result.0.now c.first_word-2.result.0.now c.first_word-3.result.0.now c.first_word-4.result.0.now
+    c.first_word-5.result.0.now c.in-Some-rest.field-0.now))

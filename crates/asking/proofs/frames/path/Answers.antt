@@ -1,40 +1,32 @@
 -- Kind, both digests, n, sides and siblings stand one behind the other.
-use mathlib.Core.Path.{◌≡◌, refl, ap, ◌∙◌}
-use mathlib.Core.List.{List, [], ◌∷◌}
-use Prim.Native.Nat.{ℕ, ◌+◌, ◌*◌, ◌≤◌}
-use native.Mathlib.Omega.{arith}
-use lib.ListN.{length, replicate}
+use Rattle.std.proofs.Common.{◌≡◌, refl, replicate, [], ◌∷◌, ◌++◌, ◌%◌, ◌^◌, ◌*◌, ap, sym, ◌∙◌, length, take, arith, rules}
 use Rattle.seqs.specs.Bytes.{be64, be64_length}
-use Rattle.seqs.specs.Over.{Front, front_next}
-use Rattle.asking.proofs.Lying.{path_framed}
-use borrow.Author.Rules.{rules}
+use Rattle.runs.specs.Frames.{together}
+use Rattle.slots.specs.Nodes.{siblings_up}
+use Rattle.asking.proofs.Lying.{siblings_there, siblings_count, longer, path_joined}
 use Rattle.asking.proofs.frames.path.Goals as goal
-use Rattle.asking.proofs.frames.path.Goals.{Start}
-
-was-long : (c : Start) → length c.args.e.was ≡ 32
-was-long c = search rules
-
-becomes-long : (c : Start) → length c.args.e.becomes ≡ 32
-becomes-long c = search rules
 
 pub returns : goal.returns
 returns c =
-    let last = c in
-    let p4 = last in
-    let p3 = p4 in
-    let p2 = p3 in
-    let p1 = p2 in
-    let spelled = p1 in
-    let sides = spelled in
-    let start = sides in
-    let a = start.args in
-    let d : List ℕ = replicate 394 1 in
-    let s-is = spelled.spelled-s.ensures ∙ ap be64 sides.sides.ensures in
-    let size = ap length s-is ∙ be64_length _ in
-    let r0 : Front d d (1 ∷ []) 1 = record { here = refl; long = refl } in
-    let r1 = front_next _ _ 32 33 r0 p1.put.ensures (was-long (goal.at.returns c).Start) refl (omega arith) in
-    let r2 = front_next _ _ 32 65 r1 p2.put-2.ensures (becomes-long (goal.at.returns c).Start) refl (omega arith) in
-    let r3 = front_next _ _ 1 66 r2 p3.put-3.ensures refl refl (omega arith) in
-    let r4 = front_next _ _ 8 74 r3 p4.put-4.ensures size refl (omega arith) in
-    let few : 74 + 32 * a.levels ≤ 394 = omega (arith, start.requires) in
-    path_framed a.nodes.now a.v a.levels a.e.was a.e.becomes _ r4 s-is last.put_siblings.ensures few
+    let a = c.args in
+    let was : length a.e.was ≡ 32 = search rules in
+    let becomes : length a.e.becomes ≡ 32 = search rules in
+    let spelled : c.spelled.result ≡ be64 (a.v % 2 ^ a.levels) = c.spelled.ensures ∙ ap be64 c.sides.ensures in
+    let eight : length c.spelled.result ≡ 8 = ap length spelled ∙ be64_length (a.v % 2 ^ a.levels) in
+    let none : length c.new.result ≡ 0 = ap length c.new.ensures in
+    let one = c.with.ensures.fits (omega (arith, none)) in
+    let long1 = longer _ _ _ _ _ one none refl in
+    let two = c.with-2.ensures.fits (omega (arith, long1, was)) in
+    let long2 = longer _ _ _ _ _ two long1 was in
+    let three = c.with-3.ensures.fits (omega (arith, long2, becomes)) in
+    let long3 = longer _ _ _ _ _ three long2 becomes in
+    let four = c.with-4.ensures.fits (omega (arith, long3)) in
+    let long4 = longer _ _ _ _ _ four long3 refl in
+    let five = c.with-5.ensures.fits (omega (arith, long4, eight)) in
+    let long5 = longer _ _ _ _ _ five long4 eight in
+    let there = siblings_there a.nodes.now a.levels a.v (replicate 320 0) (omega (arith, c.requires)) in
+    let t = together (siblings_up a.nodes.now a.levels a.v) in
+    let behind : take (32 * a.levels) c.put_siblings.new.frame ≡ t = ap (take (32 * a.levels)) c.put_siblings.ensures ∙ there.0 in
+    let six = c.with-6.ensures.fits (omega (arith, ap length behind, there.1, long5, c.requires)) in
+    path_joined a.e.was a.e.becomes c.spelled.result (take (32 * a.levels) c.put_siblings.new.frame) a.levels c.new.ensures c.number.ensures one two three four five six
+    ∙ (λ i. 1 ∷ (a.e.was ++ (a.e.becomes ++ ((sym (siblings_count a.nodes.now a.levels a.v) i ∷ (spelled i ++ behind i)) ++ []))))

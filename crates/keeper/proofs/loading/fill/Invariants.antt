@@ -1,13 +1,9 @@
--- So many bytes are there, and the buffer stays as long as it is.
-use mathlib.Core.Path.{◌≡◌, refl}
-use Prim.Native.Nat.{◌-◌, ◌≤◌}
-use native.Mathlib.Omega.{arith}
-use lib.ListN.{length}
-use borrow.Author.Rules.{rules}
+-- So many bytes are there.
+use Rattle.std.proofs.Common.{length, ◌-◌, ◌≤◌}
 use Rattle.keeper.proofs.loading.fill.Given as goal
 
 abbrev pub invariant-loop-n : goal.invariant-loop-n
-invariant-loop-n l = (l.n ≤ length l.buffer) × (length l.buffer ≡ length l.initial.buffer)
+invariant-loop-n l = l.n ≤ length l.buffer
 
 abbrev pub decreases-loop-n : goal.decreases-loop-n
-decreases-loop-n l = length l.buffer - l.n
+decreases-loop-n l = length l.initial.buffer - l.n

@@ -1,8 +1,8 @@
 -- By where the byte lies: in the message, at the mark, among the zeros or in the length.
-use Rattle.std.proofs.Common.{◌≡◌, ℕ, ◌-◌, ◌*◌, ◌^◌, length, get_or, sym, ap, ◌∙◌, arith, rules}
-use Rattle.seqs.specs.Bytes.{byte_of}
+use Rattle.std.proofs.Common.{◌≡◌, ℕ, ◌+◌, ◌-◌, ◌*◌, ◌^◌, List, length, get_or, sym, ap, ◌∙◌, arith}
+use Rattle.seqs.specs.Bytes.{be64}
 use Rattle.sha256.specs.Padding.{pad, blocks}
-use Rattle.sha256.proofs.Padding.{low64, in_message, at_mark, in_zeros, in_length}
+use Rattle.sha256.proofs.Padding.{spelled, in_message, at_mark, in_zeros, in_length}
 use Rattle.sha256.proofs.message.padded.Goals as goal
 
 pub returns-then-i-n : goal.returns-then-i-n
@@ -25,12 +25,10 @@ returns-then-i-end c =
 
 pub returns : goal.returns
 returns c =
-    let counted = c in
-    let a = counted.args in
+    let a = c.args in
     let m = a.message.now in
-    let end : ℕ = counted.blocks-end.result * 64 in
     let bits : length m * 2 ^ 3 ≡ 8 * length m = omega arith in
-    let place : (end - 1 - a.i) * 8 ≡ (blocks (length m) * 64 - 1 - a.i) * 8 = omega arith in
-    c.byte.ensures ∙ low64 (length m * 2 ^ 3) ((end - 1 - a.i) * 8) (omega arith)
-    ∙ (λ j. byte_of (bits j) (place j))
-    ∙ sym (in_length m a.i (omega arith) (omega arith) (omega arith))
+    rw c.blocks-end.ensures
+    (ap (λ (l : List ℕ). get_or l (a.i + 8 - blocks (length m) * 64) 0)
+    (c.to_be_bytes.ensures ∙ spelled (length m * 2 ^ 3) ∙ ap be64 bits)
+    ∙ sym (in_length m a.i (omega arith) (omega arith) (omega arith)))

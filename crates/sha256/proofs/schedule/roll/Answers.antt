@@ -1,7 +1,6 @@
 -- The four words that the next one is made of are still there, each at its place.
 use Rattle.sha256.specs.Work.{rolled}
 use Rattle.sha256.proofs.Scheduling.{over}
-use Rattle.std.proofs.Common.{rules}
 use Rattle.sha256.proofs.schedule.roll.Goals as goal
 
 pub returns : goal.returns

@@ -1,6 +1,0 @@
--- The tag and the digests of the table's row.
-use borrow.Author.Rules.{rules}
-use Rattle.digests.proofs.u1.Goals as goal
-
-pub returns : goal.returns
-returns c = record { is = c.said.ensures }

@@ -1,8 +1,0 @@
--- The result is the three terms of the definition, each as its callee gives it.
-use Rattle.sha256.specs.Words.{small_sigma1}
-use Rattle.std.proofs.Common.{rules}
-use Rattle.sha256.proofs.words.small1.Goals as goal
-
-pub returns : goal.returns
-unfolding small_sigma1
-returns c = cc

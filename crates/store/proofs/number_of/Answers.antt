@@ -1,8 +1,0 @@
--- The eight bytes are joined as the definition has them.
-use Rattle.seqs.specs.Bytes.{number_at}
-use borrow.Author.Rules.{rules}
-use Rattle.store.proofs.number_of.Goals as goal
-
-pub returns : goal.returns
-unfolding number_at
-returns c = cc
