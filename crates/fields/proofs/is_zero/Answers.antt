@@ -1,3 +1,4 @@
+-- `all` tests every byte, and finds each one 0 just where the list is all zeros.
 use Rattle.std.proofs.Common.{ℕ, ◌∙◌, rules, tests}
 use Rattle.std.proofs.lemmas.Iterator.{YieldsList-from_slice}
 use Rattle.std.proofs.lemmas.Iterator.Search.{all_from_yields_List}

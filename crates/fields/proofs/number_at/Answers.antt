@@ -1,3 +1,4 @@
+-- The eight bytes from there on, each 0 past the end, are the digits of the number.
 use Rattle.std.proofs.Common.{◌∙◌}
 use Rattle.fields.proofs.Bytes.{number_by}
 use Rattle.fields.proofs.number_at.Goals as goal
