@@ -10,7 +10,7 @@ use Rattle.wishes.specs.Words.{held_of, refused_number}
 use Rattle.plans.specs.declared.Script.TheVariants.{AskOfNone, Asking, Setting, Clearing, Beginning, Inserting, Swapping, Dropping, Emptying}
 use Rattle.plans.specs.declared.Plan.{Plan}
 use Rattle.plans.specs.declared.Script.{Script}
-use Rattle.plans.specs.Plans.{begun_for}
+use Rattle.plans.specs.Plans.{no_plan, begun_for}
 use Rattle.asking.specs.declared.Talk.{Talk}
 use Rattle.asking.specs.Saying.{start_of, line_at}
 use Rattle.hearing.specs.declared.End.{End}
@@ -23,6 +23,8 @@ use Rattle.words.specs.declared.Telling.{Telling}
 use Rattle.words.specs.declared.Telling.TheVariants.{Done, Found, NoItem, Refused, ModuleRefused, Otherwise, What}
 use Rattle.words.specs.Reading.{word_in}
 use Rattle.words.specs.Telling.{told}
+use Rattle.turns.specs.declared.Standing.{Standing}
+use Rattle.turns.specs.declared.Standing.TheVariants.{Awaiting, Over}
 use Rattle.turns.specs.declared.Desk.{Desk}
 
 -- what a line leads to: the desk, whether memory changed, and the line that goes out, with its 0A
@@ -56,17 +58,17 @@ telling d b t = record { desk = d; changed = b; text = told t }
 -- to the module, whose reply is then awaited
 abbrev pub sending : (count : ℕ) → Revision → Talk → (changed : Bool) → (nodes : List ℕ) → Said
 sending k c t b nodes =
-    record { desk = record { count = k; counter = c; talk = Some t }; changed = b; text = line_at nodes t }
+    record { desk = record { count = k; counter = c; talk = Awaiting t }; changed = b; text = line_at nodes t }
 
 -- ── lines that come ──
 
 -- a reply: the wish goes on, is done, was refused by the module, or got something else
 abbrev pub on_end : End → Heard → (nodes : List ℕ) → Said
 on_end GoesOn h nodes = sending h.count h.counter h.talk h.changed nodes
-on_end E.Done h nodes = telling (record { count = h.count; counter = h.counter; talk = None }) h.changed (finished_of h.talk.plan)
+on_end E.Done h nodes = telling (record { count = h.count; counter = h.counter; talk = Over h.talk }) h.changed (finished_of h.talk.plan)
 on_end (E.Refused r) h nodes =
-    telling (record { count = h.count; counter = h.counter; talk = None }) h.changed (ModuleRefused (refusal_number r))
-on_end E.Otherwise h nodes = telling (record { count = h.count; counter = h.counter; talk = None }) h.changed Otherwise
+    telling (record { count = h.count; counter = h.counter; talk = Over h.talk }) h.changed (ModuleRefused (refusal_number r))
+on_end E.Otherwise h nodes = telling (record { count = h.count; counter = h.counter; talk = Over h.talk }) h.changed Otherwise
 
 abbrev pub on_heard : Heard → (nodes : List ℕ) → Said
 on_heard h nodes = on_end h.end h nodes
@@ -90,28 +92,29 @@ module _ (D : List ℕ → Dig) (d : Desk) where
   on_word l leaves nodes = on_saying leaves nodes (word_in l)
 
   -- any line
-  abbrev pub turn_in : Option Talk → (line leaves nodes : List ℕ) → Said
-  turn_in (Some t) l leaves nodes = on_heard (heard_from D t d.count d.counter l leaves nodes) (nodes_heard D t l nodes)
-  turn_in None l leaves nodes = on_word l leaves nodes
+  abbrev pub turn_in : Standing → (line leaves nodes : List ℕ) → Said
+  turn_in (Awaiting t) l leaves nodes = on_heard (heard_from D t d.count d.counter l leaves nodes) (nodes_heard D t l nodes)
+  turn_in (Over t) l leaves nodes = on_word l leaves nodes
 
   unfoldable pub turn_of : (line leaves nodes : List ℕ) → Said
   turn_of l leaves nodes = turn_in d.talk l leaves nodes
 
-  abbrev pub nodes_in : Option Talk → (line nodes : List ℕ) → List ℕ
-  nodes_in (Some t) l nodes = nodes_heard D t l nodes
-  nodes_in None l nodes = nodes
+  abbrev pub nodes_in : Standing → (line nodes : List ℕ) → List ℕ
+  nodes_in (Awaiting t) l nodes = nodes_heard D t l nodes
+  nodes_in (Over t) l nodes = nodes
 
   unfoldable pub nodes_after : (line nodes : List ℕ) → List ℕ
   nodes_after l nodes = nodes_in d.talk l nodes
 
-abbrev pub leaves_in : Option Talk → (line leaves : List ℕ) → List ℕ
-leaves_in (Some t) l leaves = leaves_heard t l leaves
-leaves_in None l leaves = leaves
+abbrev pub leaves_in : Standing → (line leaves : List ℕ) → List ℕ
+leaves_in (Awaiting t) l leaves = leaves_heard t l leaves
+leaves_in (Over t) l leaves = leaves
 
 unfoldable pub leaves_after : Desk → (line leaves : List ℕ) → List ℕ
 leaves_after d l leaves = leaves_in d.talk l leaves
 
 -- ── the start ──
 
+-- no reply is awaited, and the talk is over before its first line; its plan is nothing to do
 unfoldable pub at_rest : (count : ℕ) → Desk
-at_rest k = record { count = k; counter = record { 0 = 0 }; talk = None }
+at_rest k = record { count = k; counter = record { 0 = 0 }; talk = Over (start_of no_plan) }

@@ -2,25 +2,34 @@
 //! that the keeper does is here but for input, output and the disk.
 #![tactic(auto)]
 
-ghost use Rattle.std.specs.Prelude.{◌≡◌};
+ghost use Rattle.std.specs.Prelude.{◌≡◌, []};
 ghost use Rattle.sha256.specs.Hash.{sha256};
+ghost use Rattle.plans.specs.Plans.{asked};
 ghost use Rattle.turns.specs.Turns.{at_rest, finished_of, telling, sending, on_begun, on_word, on_heard, turn_of, leaves_after, nodes_after};
 ghost use Rattle.turns.specs.Saying.{SaidAs};
 
 use asking::Talk;
 use hearing::{End, Heard};
-use paper::Revision;
-use plans::{Plan, Script};
+use paper::{Item, Kilograms, Millimetres, Revision, Rigging, Values};
+use plans::{After, Plan, Script};
+use rows::Row;
 use wishes::Wish;
 use words::{Telling, Word};
 
-/// What is kept between two lines: how many leaves memory holds, the counter that the module gave last, and the talk in which a reply
-/// is awaited, if one is.
+/// How a talk stands: a reply is awaited in it, or it is over.
+#[derive(Clone, Copy)]
+pub enum Standing {
+    Awaiting(Talk),
+    Over(Talk),
+}
+
+/// What is kept between two lines: how many leaves memory holds, the counter that the module gave last, and the last talk, in which a
+/// reply is awaited or which is over.
 #[derive(Clone, Copy)]
 pub struct Desk {
     pub count: usize,
     pub counter: Revision,
-    pub talk: Option<Talk>,
+    pub talk: Standing,
 }
 
 // Leaves, nodes and output stay apart: docs/TRACE.md names `answer`, which answers for any of each. `changed` has no value beside it that
@@ -88,7 +97,7 @@ fn send(
         desk: Desk {
             count,
             counter,
-            talk: Some(talk),
+            talk: Standing::Awaiting(talk),
         },
         changed,
         length: asking::line(talk, nodes, out),
@@ -131,7 +140,7 @@ fn hear(h: Heard, nodes: &[u8], out: &mut [u8]) -> Turn
     let rest = Desk {
         count,
         counter,
-        talk: None,
+        talk: Standing::Over(talk),
     };
     match end {
         End::GoesOn => send(count, counter, talk, changed, nodes, out),
@@ -141,17 +150,54 @@ fn hear(h: Heard, nodes: &[u8], out: &mut [u8]) -> Turn
     }
 }
 
-/// The keeper as it starts, with so many leaves in memory: no reply is awaited, and the counter is 0.
-#[tactic(auto, unfolding(crate::specs::Turns::at_rest))]
+// ── the start ──
+
+/// A question where nothing is listed, with the counter at 0.
+#[tactic(auto, unfolding(plans::specs::Plans::asked, plans::specs::Plans::plain_plan))]
+fn ask_of_none(item: Item) -> Plan
+    ensures { result ≡ asked [] [] 0 (record { 0 = 0 }) item }
+{
+    let row = Row {
+        item: Item(0),
+        next: Item(0),
+        entry: records::EMPTY,
+    };
+    let counter = Revision(0);
+    Plan {
+        script: Script::AskOfNone,
+        item,
+        values: Values {
+            mass: Kilograms(0),
+            offset: Millimetres(0),
+            rigging: Rigging(0),
+        },
+        here: row,
+        next: Item(0),
+        hash: [0; 32],
+        change: edits::no_place(0),
+        after: After {
+            left: row,
+            right: row,
+            count: 0,
+            counter,
+        },
+    }
+}
+
+/// The keeper as it starts, with so many leaves in memory: no reply is awaited, and the counter is 0. The talk that is over is the one
+/// of a question on item 0, which nobody asked.
+#[tactic(auto, unfolding(crate::specs::Turns::at_rest, plans::specs::Plans::asked))]
 pub fn start(count: usize) -> Desk
     ensures { result ≡ at_rest count }
 {
     Desk {
         count,
         counter: Revision(0),
-        talk: None,
+        talk: Standing::Over(asking::start(ask_of_none(Item(0)))),
     }
 }
+
+// ── a turn ──
 
 /// One turn: the line that came, without its 0A; memory, which changes only where the module has accepted; and the line that goes
 /// out, with its 0A, over the front of the output, or nothing where it does not fit. No line is longer than 789 bytes.
@@ -163,10 +209,10 @@ pub fn answer(d: Desk, line: &[u8], leaves: &mut [u64], nodes: &mut [u8], out: &
     ensures nodes_after { nodes.new ≡ nodes_after sha256 d line.now nodes.old }
 {
     match d.talk {
-        Some(talk) => {
+        Standing::Awaiting(talk) => {
             let heard = hearing::hear(talk, d.count, d.counter, line, leaves, nodes);
             hear(heard, nodes, out)
         }
-        None => ask(d, line, leaves, nodes, out),
+        Standing::Over(_) => ask(d, line, leaves, nodes, out),
     }
 }

@@ -1,3 +1,4 @@
+-- The text over the front of the output, where it fits.
 use Rattle.std.proofs.Common.{refl, ap, ◌∙◌, List, ℕ, length}
 use Rattle.seqs.specs.Over.{written}
 use Rattle.asking.specs.Saying.{fitting_length}
