@@ -61,7 +61,7 @@ module _ (m : List ℕ) where
   siblings_count (suc n) v = ap suc (siblings_count n (v / 2))
 
   -- put behind what stands at the front
-  siblings_front : (n v at k : ℕ) {d e p : List ℕ} → Front d e p at → at + 32 * n ≡ k → k ≤ length d
+  pub siblings_front : (n v at k : ℕ) {d e p : List ℕ} → Front d e p at → at + 32 * n ≡ k → k ≤ length d
       → Front d (siblings_put m n v at e) (p ++ together (siblings_up m n v)) k
   siblings_front zero v at k {d} {e} {p} f j room =
       let here : at ≡ k = omega arith in

@@ -1,6 +1,6 @@
 -- Checks made one after the other: the one law of all kinds, that a request whose row was walked comes to the outcome that the
 -- paper's table gives.
-use Rattle.std.proofs.Common.{◌≡◌, ℕ, ◌+◌, ◌≤◌, Bool, true, false, List, [], ◌∷◌, ◌++◌, length, refl, sym, ap, ap₂, ◌∙◌, subst, arith, le-leb}
+use Rattle.std.proofs.Common.{◌≡◌, ℕ, ◌+◌, ◌%◌, ◌^◌, ◌≤◌, Bool, true, false, List, [], ◌∷◌, ◌++◌, length, refl, sym, ap, ap₂, ◌∙◌, subst, arith, le-leb}
 use Rattle.std.specs.Prelude.{Some, Result, Ok, Err, OnOk}
 use Rattle.seqs.specs.Choose.{pick, either, either_no, opposite, Every}
 use Rattle.seqs.specs.Bytes.{all_zero, same}
@@ -9,7 +9,7 @@ use Rattle.paper.specs.declared.Record.{Record}
 use Rattle.paper.specs.declared.Registers.{Registers}
 use Rattle.paper.specs.Strings.{Dig, Memo, Str, cost, entry, leaf, blank, memorandum, memorandum_forms, record_forms, record_hash}
 use Rattle.paper.specs.Requests as Q
-use Rattle.paper.specs.Refusals.{none_fits, Check, request_order, needs, leaf_forms, Verdict, refused_by, all_passed, judge}
+use Rattle.paper.specs.Refusals.{none_fits, tried, Check, request_order, needs, leaf_forms, Verdict, refused_by, all_passed, judge}
 use Rattle.paper.specs.Answers.{AnswerParts, answer}
 use Rattle.paper.specs.Module.{told_by}
 use Rattle.paper.proofs.Ceilings.{cost_append}
@@ -24,7 +24,7 @@ use Rattle.digests.specs.declared.Digest.{Digest}
 use Rattle.digests.specs.declared.Says.{Says}
 use Rattle.digests.specs.Speaking.{Spoken, made_of}
 use Rattle.digests.proofs.Speaking.{made_of_lem}
-use Rattle.checks.specs.Steps.{begun, held, outcome_at, walk, row}
+use Rattle.checks.specs.Steps.{begun, blocks_more, held, outcome_at, walk, row}
 
 -- ── a leaf costs two blocks at most ──
 
@@ -155,18 +155,74 @@ pub issues_it : {s : Says} {t : Memo} → Spoken s t → (k : Dig)
     → ((made_of s k).bytes ≡ memorandum sha256 t k) × ((made_of s k).blocks ≡ cost (memorandum_forms sha256 t k))
 issues_it p k = let e = made_of_lem p k in (ap (λ (d : Digest). d.bytes) e, ap (λ (d : Digest). d.blocks) e)
 
+none_of_one : (b : Bool) → opposite b ≡ pick b false true
+none_of_one true = refl
+none_of_one false = refl
+
+none_behind : (fs : List Str) (b : Bool) → cost fs ≡ cost (fs ++ pick b [] [])
+none_behind fs true = omega (arith, cost_append fs [])
+none_behind fs false = omega (arith, cost_append fs [])
+
+-- the check that m is the memorandum of what is said, by its bytes: it holds where the paper's does, and costs as much
 pub fits_one : {E : Type 0} {s : Says} {t : Memo} → Spoken s t → (k m : Dig) (e : E)
-    → held (same (made_of s k).bytes m) e ≡ held (same (memorandum sha256 t k) m) e
-fits_one p k m e = ap (λ (d : Dig). held (same d m) e) (issues_it p k).0
+    → let b = same (made_of s k).bytes m in
+    let n = (made_of s k).blocks in
+    (held b e ≡ held (same (memorandum sha256 t k) m) e)
+    × (opposite b ≡ none_fits sha256 k (t ∷ []) m)
+    × (n ≡ cost (memorandum_forms sha256 t k))
+    × (n ≡ cost (tried sha256 k (t ∷ []) m))
+fits_one {t = t} p k m e =
+    let i = issues_it p k in
+    let b = same (memorandum sha256 t k) m in (
+      ap (λ (d : Dig). held (same d m) e) i.0,
+      ap (λ (d : Dig). opposite (same d m)) i.0 ∙ none_of_one b,
+      i.1,
+      i.1 ∙ none_behind (memorandum_forms sha256 t k) b,
+    )
 
 two_tried : (b b' : Bool) → pick b true b' ≡ opposite (pick b false (pick b' false true))
 two_tried true b' = refl
 two_tried false true = refl
 two_tried false false = refl
 
+none_of_two : (b b' : Bool) → pick b false (opposite b') ≡ pick b false (pick b' false true)
+none_of_two true b' = refl
+none_of_two false b' = none_of_one b'
+
+two_counted : (fs gs : List Str) (b b' : Bool) → cost fs + pick b 0 (cost gs) ≡ cost (fs ++ pick b [] (gs ++ pick b' [] []))
+two_counted fs gs true b' = omega (arith, cost_append fs [])
+two_counted fs gs false b' = omega (arith, none_behind gs b', cost_append fs (gs ++ pick b' [] []))
+
+-- one work after the other comes to the work of both
+worked_at : (b : Bool) (d : Desk) (n n' : ℕ) → pick b (blocks_more d n) (blocks_more (blocks_more d n) n') ≡ blocks_more d (n + pick b 0 n')
+worked_at true d n n' =
+    let e : (d.blocks + n) % 2 ^ 64 ≡ (d.blocks + (n + 0)) % 2 ^ 64 = omega arith in
+    λ i. record { registers = d.registers; blocks = e i }
+worked_at false d n n' =
+    let e : ((d.blocks + n) % 2 ^ 64 + n') % 2 ^ 64 ≡ (d.blocks + (n + n')) % 2 ^ 64 = omega arith in
+    λ i. record { registers = d.registers; blocks = e i }
+
+-- the same where it may be that of one of two: the second is worked where the first does not fit, and so it is counted at a desk
 pub fits_either : {E : Type 0} {s s' : Says} {t t' : Memo} → Spoken s t → Spoken s' t' → (k m : Dig) (e : E)
-    → held (pick (same (made_of s k).bytes m) true (same (made_of s' k).bytes m)) e
-    ≡ held (opposite (none_fits sha256 k (t ∷ t' ∷ []) m)) e
-fits_either {t = t} {t'} p p' k m e =
-    ap₂ (λ (d d' : Dig). held (pick (same d m) true (same d' m)) e) (issues_it p k).0 (issues_it p' k).0
-    ∙ ap (λ (b : Bool). held b e) (two_tried (same (memorandum sha256 t k) m) (same (memorandum sha256 t' k) m))
+    → let b = same (made_of s k).bytes m in
+    let b' = same (made_of s' k).bytes m in
+    let n = (made_of s k).blocks in
+    let n' = (made_of s' k).blocks in
+    let ts : List Memo = t ∷ t' ∷ [] in
+    (held (pick b true b') e ≡ held (opposite (none_fits sha256 k ts m)) e)
+    × (pick b false (opposite b') ≡ none_fits sha256 k ts m)
+    × (n + pick b 0 n' ≡ cost (tried sha256 k ts m))
+    × ((d : Desk) → pick b (blocks_more d n) (blocks_more (blocks_more d n) n') ≡ blocks_more d (cost (tried sha256 k ts m)))
+fits_either {s = s} {s'} {t} {t'} p p' k m e =
+    let i = issues_it p k in
+    let i' = issues_it p' k in
+    let b = same (memorandum sha256 t k) m in
+    let b' = same (memorandum sha256 t' k) m in
+    let counted : (made_of s k).blocks + pick (same (made_of s k).bytes m) 0 (made_of s' k).blocks
+    ≡ cost (tried sha256 k (t ∷ t' ∷ []) m)
+    = (λ x. i.1 x + pick (same (i.0 x) m) 0 (i'.1 x)) ∙ two_counted (memorandum_forms sha256 t k) (memorandum_forms sha256 t' k) b b' in (
+      ap₂ (λ (d d' : Dig). held (pick (same d m) true (same d' m)) e) i.0 i'.0 ∙ ap (λ (x : Bool). held x e) (two_tried b b'),
+      ap₂ (λ (d d' : Dig). pick (same d m) false (opposite (same d' m))) i.0 i'.0 ∙ none_of_two b b',
+      counted,
+      λ d. worked_at (same (made_of s k).bytes m) d _ _ ∙ ap (blocks_more d) counted,
+    )

@@ -1,13 +1,13 @@
--- What follows from the contracts of `read_line` and `write_frame` alone, as statements: each refusal is the first of
--- the paper's order that applies. `proofs/Follows` shows them.
-use Rattle.std.specs.Prelude.{◌≡◌, List, ◌⊎◌, ℕ, ◌+◌, ◌*◌, length, Result}
+-- What follows from the contracts of `read_line`, `write_frame` and `frame_refusal` alone, as statements: each refusal is the first
+-- of the paper's order that applies, and two outcomes are equal. `proofs/Follows` and `proofs/Single` show them.
+use Rattle.std.specs.Prelude.{◌≡◌, List, ◌⊎◌, ℕ, ◌+◌, ◌*◌, length, Option, Result}
 use Rattle.hexadecimal.specs.Hex.{bytes_of}
 use Rattle.paper.specs.Requests.{kind_of}
 use Rattle.paper.specs.Refusals.{Check, Passed, FirstToApply}
 use Rattle.paper.specs.Module.{line_order, read_checks, write_checks}
 use Rattle.paper.specs.declared.Refusal.{Refusal}
 use Rattle.lines.specs.declared.Frame as Declared
-use Rattle.lines.specs.Reading.{Frame, Refused, Line, Rejected, read_told, read_of, frame_after, wrote_told, wrote_of, line_after}
+use Rattle.lines.specs.Reading.{Frame, Refused, Line, Rejected, read_told, read_of, frame_after, wrote_told, wrote_of, line_after, number_or_zero}
 
 -- what `read_line` promises: of what it returns, and of the frame space afterwards
 pub record ReadPromised (line space : List ℕ) (r : Result Declared.Frame Refusal) (after : List ℕ) : Type 0 where
@@ -35,3 +35,17 @@ ReadIsFirst = (line space after : List ℕ) (r : Result Declared.Frame Refusal) 
 abbrev pub WriteIsFirst : Type 0
 WriteIsFirst = (frame space after : List ℕ) (r : Result ℕ Refusal) → WritePromised frame space r after
     → FirstOfFour (Line (2 * length frame + 1)) (λ n. Rejected n) (write_checks frame (length space)) (wrote_told r)
+
+-- §8.4.2: two outcomes that the contract of `read_line` allows are equal: what comes back, and the frame space
+abbrev pub OneReading : Type 0
+OneReading = (line space after after' : List ℕ) (r r' : Result Declared.Frame Refusal)
+    → ReadPromised line space r after → ReadPromised line space r' after' → (r ≡ r') × (after ≡ after')
+
+-- the same of `write_frame`
+abbrev pub OneWriting : Type 0
+OneWriting = (frame space after after' : List ℕ) (r r' : Result ℕ Refusal)
+    → WritePromised frame space r after → WritePromised frame space r' after' → (r ≡ r') × (after ≡ after')
+
+-- and of `frame_refusal`: one number of one refusal, or of none
+abbrev pub OneRefusal : Type 0
+OneRefusal = (o o' : Option Refusal) → number_or_zero o ≡ number_or_zero o' → o ≡ o'

@@ -119,7 +119,7 @@ module _ (s : Registers) (line : List ℕ) where
   read_line_by false h z =
       (short line h, frame_accepted s (bytes_of line) (sym z ∙ read_own line h) ∙ sym (ap outcome_of (is_hex_lem s line h)))
 
-  line_read_lem : (k l : ℕ) → Frame k l ≡ read_of line longest_frame
+  pub line_read_lem : (k l : ℕ) → Frame k l ≡ read_of line longest_frame
       → (l ≡ length (bytes_of line)) × (length (bytes_of line) ≤ longest_frame)
       × (answer_fitting s (bytes_of line) ≡ outcome_of (answer_to sha256 s line reply_room))
   unfolding read_of
@@ -160,15 +160,24 @@ module _ (t : Told) (m d : List ℕ) (e : m ≡ t.says) (short : length m ≤ 97
   fits_room : length (line_of m) ≤ length d
   fits_room = omega (arith, line_length m)
 
-  written_after : written (line_of m) d ≡ space_after t d
-  written_after = written_fits (line_of m) d _ refl fits_room ∙ sym (ap (λ (l : List ℕ). l ++ drop (length l) d) line_is)
+  pub written_here : written (line_of m) d ≡ space_after t d
+  written_here = written_fits (line_of m) d _ refl fits_room ∙ sym (ap (λ (l : List ℕ). l ++ drop (length l) d) line_is)
 
-  length_after : unwrap_or (reply_length m (length d)) 0 ≡ length (reply_line t)
+  pub length_here : unwrap_or (reply_length m (length d)) 0 ≡ length (reply_line t)
   unfolding reply_length
-  length_after =
+  length_here =
       let l = line_length m in
       let f = fits_room in
       rw (le-leb (2 * length m + 1) (length d) (omega arith)) (sym (ap length line_is ∙ l))
+
+-- the same of an outcome's reply
+module _ (t : Told) (o : Outcome) (e : o ≡ outcome_of t) (short : length o.reply ≤ 97) where
+  module _ (d : List ℕ) (room : reply_room ≤ length d) (r : eqb t.refusal 15 ≡ false) where
+    pub written_after : (d' : List ℕ) → d' ≡ written (line_of o.reply) d → d' ≡ space_after t d
+    written_after d' h = h ∙ written_here t o.reply d (ap (λ (x : Outcome). x.reply) e) short room r
+
+    pub length_after : (n : ℕ) → n ≡ unwrap_or (reply_length o.reply (length d)) 0 → n ≡ length (reply_line t)
+    length_after n h = h ∙ length_here t o.reply d (ap (λ (x : Outcome). x.reply) e) short room r
 
 pub promised_with_room : (s : Registers) (line d m : List ℕ) (o : Outcome) (x : Answered) (d' : List ℕ)
     → o ≡ outcome_of (answer_to sha256 s line reply_room) → m ≡ (answer_to sha256 s line reply_room).says → length m ≤ 97
@@ -178,12 +187,12 @@ pub promised_with_room : (s : Registers) (line d m : List ℕ) (o : Outcome) (x 
 promised_with_room s line d m o x d' is e short room r f n b h =
     let t = answer_to sha256 s line reply_room in
     let w = with_room s line (length d) room in
-    let k = n ∙ length_after t m d e short room (not_15 s line) in
+    let k = n ∙ length_here t m d e short room (not_15 s line) in
     let registers = r ∙ ap (λ (y : Outcome). y.registers) is in
     let blocks = b ∙ ap (λ (y : Outcome). y.blocks) is in
     record {
       returned =
           (λ i. record { registers = registers i; reply = record { refused = f i; length = k i; blocks = blocks i } })
           ∙ sym (ap answered_of w);
-      left = h ∙ written_after t m d e short room (not_15 s line) ∙ sym (ap (λ (y : Told). space_after y d) w);
+      left = h ∙ written_here t m d e short room (not_15 s line) ∙ sym (ap (λ (y : Told). space_after y d) w);
     }

@@ -5,5 +5,5 @@ use Rattle.memory.proofs.load.Goals as goal
 
 pub put_lines-requires : goal.put_lines-requires
 put_lines-requires c =
-    let k = ring_text c.args.text.now 1024 c.in_ok-n.n (sym c.judge.ensures ∙ c.in_ok-n.was) in
+    let k = ring_text c.args.text.now _ c.in_ok-n.n (sym c.judge.ensures ∙ c.in_ok-n.was) in
     record { text_value = k.whole; n_value = k.size }
