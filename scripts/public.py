@@ -26,7 +26,7 @@ OWNER = re.compile(r"\bimpl\b\s*(?:<[^{]*?>\s*)?(\w+)(?:<[^{]*>)?\s*\{")
 # the traits, and the ghost member by which each says what its function gives
 GIVES = {"From": "from_gives", "TryFrom": "try_from_gives", "Display": "output"}
 TRAIT = re.compile(rf"\bimpl\b\s*(?:<[^{{]*?>\s*)?(?:\w+::)*({'|'.join(GIVES)})\b\s*(?:<[^{{]*>)?"
-                   r"\s+for\s+[&\[\s]*(?:'\w+\s+)?(?:\w+::)*(\w+)[^{]*\{")
+                   r"\s+for\s+[&\[(\s]*(?:'\w+\s+)?(?:\w+::)*(\w+)[^{]*\{")
 NAMED = re.compile(r"\bfn\s+(\w+)")
 MEMBER = re.compile(r"\bghost\s+(\w+)\s*=")
 EXCUSED = re.compile(r"`(\w+(?:::\w+)+)`")
